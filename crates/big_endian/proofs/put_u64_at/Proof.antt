@@ -1,0 +1,34 @@
+-- The upper half, then the lower. Assumes nothing.
+use Rattle.big_endian.proofs.WriteLaws.{halves-at}
+use borrow.Author.Needs.{needs}
+use Rattle.big_endian.proofs.put_u64_at.Statement.{statement}
+use Rattle.big_endian.proofs.put_u64_at.Tie as tie
+
+cast-put-u32-at : tie.Need-cast-put-u32-at
+cast-put-u32-at c = search needs
+
+put-u32-at-requires : tie.Need-put-u32-at-requires
+put-u32-at-requires c κs = search needs
+
+cast-put-u32-at-2 : tie.Need-cast-put-u32-at-2
+cast-put-u32-at-2 c = search needs
+
+put-u32-at-requires-2 : tie.Need-put-u32-at-requires-2
+put-u32-at-requires-2 c κs = search needs
+
+same-length : tie.Need-same-length
+same-length c = search needs
+
+returns : tie.Need-returns
+returns c = halves-at 4 (c .before .before .before .before .before .before .before .before .before .args .v) (c .before .before .before .before .before .before .put-u32-at .ensures) (c .before .before .put-u32-at2 .ensures)
+
+pub put-u64-at-spec : {M : Type 1} → statement M
+put-u64-at-spec =
+    tie.close
+    (tie.spec
+    cast-put-u32-at
+    put-u32-at-requires
+    cast-put-u32-at-2
+    put-u32-at-requires-2
+    same-length
+    returns)

@@ -1,0 +1,3 @@
+-- Big-endian numbers, and runs of bytes in a buffer.
+pub mod Big
+pub mod Buffer

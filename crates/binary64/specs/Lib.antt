@@ -1,0 +1,6 @@
+-- Doubles: their values as whole numbers, rounding to whole numbers, one step, `mul_add`.
+pub mod Value
+pub mod Parts
+pub mod Whole
+pub mod Step
+pub mod Fma

@@ -1,0 +1,8 @@
+pub mod Bytes
+pub mod FloorDivision
+pub mod Exponent
+pub mod Magnitude
+pub mod Pattern
+pub mod Unique
+pub mod Real8Laws
+pub mod Rows

@@ -1,0 +1,3 @@
+-- Eight-byte reals.
+pub mod Real8
+pub mod Faithful

@@ -1,0 +1,3 @@
+-- Reading a list from its front.
+pub mod Parse
+pub mod All

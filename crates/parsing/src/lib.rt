@@ -1,0 +1,1 @@
+// Reading a list from its front: definitions in specs/, laws in proofs/.
