@@ -1,12 +1,11 @@
--- Numbers and their bytes at any width: a number that fits its bytes is read back from them, and its bytes are those of its halves. Assumes nothing.
+-- A number that fits its bytes is read back from them, at any width. Assumes nothing.
 use mathlib.Core.Path.{_≡_, refl, sym, ap, _∙_, subst}
 use mathlib.Core.List.{List, [], _∷_, _++_}
 use Prim.Native.Nat.{ℕ, zero, suc, _+_, _*_, _/_, _%_, _^_, _≤_, _<_}
-use native.Mathlib.Nat.{one-le-pow, pow-succ', mod-eq-of-lt, mod-lt, zero-add, suc-add, mod-add-div', mul-assoc, mul-comm, mul-left-comm, mul-one, mul-pos, add-mul, add-assoc, add-mul-div-right, add-mul-mod-self-right, div-div-eq-div-mul}
+use native.Mathlib.Nat.{one-le-pow, pow-succ', mod-eq-of-lt, mod-lt, mul-assoc, add-mul, add-assoc}
 use native.Mathlib.Omega.{arith}
 use lib.Dec.{lit<}
 use lib.Arith.{mod-mul}
-use lib.Pow.{pow-add}
 use lib.ListN.{length, getD}
 use Rattle.big_endian.specs.Big.{Bytes, below, number, bytesOf}
 
@@ -63,34 +62,3 @@ below-lt (b ∷ s) a m h l =
 pub number-lt : (s : List ℕ) → Bytes s → number s < 256 ^ length s
 number-lt [] h = lit< tt
 number-lt (b ∷ s) h = subst (λ (z : ℕ). below b s < z) (sym (pow-succ' 256 (length s))) (below-lt s b 256 (λ i. h (suc i)) (h 0))
-
--- ---- the bytes of a number by its halves
-
--- what lies above k bytes does not show in them
-kept : (v P m : ℕ) → 0 < P → 0 < m → v % (P * (256 * m)) / P % 256 ≡ v / P % 256
-kept v P m h k =
-    let W = P * (256 * m) in
-    let r = v % W in
-    let q = v / W in
-    let e : r + (q * m * 256) * P ≡ v = ap (λ (z : ℕ). r + z) (turn q P m) ∙ mod-add-div' v W in
-    let s : v / P ≡ r / P + q * m * 256 = ap (λ (z : ℕ). z / P) (sym e) ∙ add-mul-div-right r (q * m * 256) h in
-    sym (ap (λ (z : ℕ). z % 256) s ∙ add-mul-mod-self-right (r / P) (q * m) 256)
-  where
-    turn : (q P m : ℕ) → q * m * 256 * P ≡ q * (P * (256 * m))
-    turn q P m = simp (mul-assoc, mul-comm, mul-left-comm)
-
-low-bytes : (k v m : ℕ) → 0 < m → bytesOf k (v % (256 ^ k * m)) ≡ bytesOf k v
-low-bytes zero v m h = refl
-low-bytes (suc k) v m h =
-    let e : 256 ^ suc k * m ≡ 256 ^ k * (256 * m) = ap (λ (z : ℕ). z * m) (pow-succ' 256 k) ∙ simp (mul-assoc, mul-comm) in
-    ap (λ (z : ℕ). bytesOf (suc k) (v % z)) e
-    ∙ ap (λ (z : ℕ). z ∷ bytesOf k (v % (256 ^ k * (256 * m)))) (kept v (256 ^ k) m (power k) h)
-    ∙ ap (λ (l : List ℕ). v / 256 ^ k % 256 ∷ l) (low-bytes k v (256 * m) (mul-pos (lit< tt) h))
-
--- j + k bytes are the j bytes of what lies above 256 ^ k, and the k bytes of the rest
-pub bytes-halves : (j k v : ℕ) → bytesOf (j + k) v ≡ bytesOf j (v / 256 ^ k) ++ bytesOf k (v % 256 ^ k)
-bytes-halves zero k v = rw zero-add (sym (ap (λ (z : ℕ). bytesOf k (v % z)) (sym (mul-one (256 ^ k))) ∙ low-bytes k v 1 (lit< tt)))
-bytes-halves (suc j) k v =
-    rw suc-add
-    (ap (λ (z : ℕ). z % 256 ∷ bytesOf (j + k) v) (sym (div-div-eq-div-mul v (256 ^ k) (256 ^ j) ∙ ap (λ (z : ℕ). v / z) (mul-comm (256 ^ k) (256 ^ j) ∙ sym (pow-add 256 j k))))
-    ∙ ap (λ (l : List ℕ). v / 256 ^ k / 256 ^ j % 256 ∷ l) (bytes-halves j k v))

@@ -1,7 +1,7 @@
 -- Laws that other crates' proofs cite.
 pub mod BigLaws
+pub mod BytesLaws
 pub mod PlaceLaws
 pub mod BufferLaws
 pub mod WriteLaws
 pub mod SignedLaws
-pub mod BytesLaws

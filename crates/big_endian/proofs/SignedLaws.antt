@@ -40,37 +40,54 @@ module _ (v : ℕ) (h : 2 ^ 31 ≤ v) (k : v < 2 ^ 32) where
       go : (v : ℕ) → v < 2 ^ 32 → 2 ^ 32 - suc v ≡ 4294967295 - v
       go v h = omega arith
 
--- ---- the bits of a number y that fits
-pub up-cast : (y : ℤ) → SFits w32 y → leZ (pos 0) y ≡ true → T (nonNeg y) × Fits w32 (natAbs y)
-up-cast (pos n) f h = let g = f .sfits in (tt, record { fits = omega arith })
-up-cast (negsuc n) f h = absurd (true≢false (sym h))
+-- ---- the bits of a signed number z that fits. The code reads z back from its bits, as y.
+module _ (z : ℤ) (f : SFits w32 z) where
+  abbrev y : ℤ
+  y = toZ w32 (ofZ w32 z)
 
-pub up-is : (y : ℤ) → leZ (pos 0) y ≡ true → natAbs y ≡ ofZ w32 y
-up-is (pos n) h = refl
-up-is (negsuc n) h = absurd (true≢false (sym h))
+  back : y ≡ z
+  back = toZ-ofZ w32 z f
 
--- what a negative y is turned into
-pub record Turned (y t : ℤ) : Type 0 where
-  pub size : ℕ
-  pub from : y ≡ negsuc size
-  pub to : t ≡ pos size
-  pub small : size < 2 ^ 31
+  up : (x : ℤ) → SFits w32 x → leZ (pos 0) x ≡ true → (T (nonNeg x) × Fits w32 (natAbs x)) × (natAbs x ≡ ofZ w32 x)
+  up (pos n) g h = let k = g .sfits in ((tt, record { fits = omega arith }), refl)
+  up (negsuc n) g h = absurd (true≢false (sym h))
 
-pub turned : (y : ℤ) → SFits w32 y → leZ (pos 0) y ≡ false → Turned y (negsuc 0 -ℤ y)
-turned (pos n) f h = absurd (true≢false (sym (le-leb 0 n (omega arith)) ∙ h))
-turned (negsuc n) f h = record { size = n; from = refl; to = minus-neg n; small = f .sfits }
+  -- from 0 on: the number itself
+  pub up-cast : leZ (pos 0) y ≡ true → T (nonNeg y) × Fits w32 (natAbs y)
+  up-cast h = up y (subst (λ (x : ℤ). SFits w32 x) (sym back) f) h .0
 
-pub turned-fits : (y t : ℤ) → Turned y t → SFits w32 t
-turned-fits y t q = subst (λ (z : ℤ). SFits w32 z) (sym (q .to)) (record { sfits = q .small })
+  pub up-is : leZ (pos 0) y ≡ true → natAbs y ≡ ofZ w32 z
+  up-is h = up y (subst (λ (x : ℤ). SFits w32 x) (sym back) f) h .1 ∙ ap (ofZ w32) back
 
-pub turned-cast : (y t : ℤ) → Turned y t → T (nonNeg t) × Fits w32 (natAbs t)
-turned-cast y t q = let g = q .small in subst (λ (z : ℤ). T (nonNeg z) × Fits w32 (natAbs z)) (sym (q .to)) (tt, record { fits = omega arith })
+  -- below 0: how far below -1, which is read back too, and that counted down from the largest number of 32 bits
+  record Below (x t : ℤ) : Type 0 where
+    size : ℕ
+    from : x ≡ negsuc size
+    to : t ≡ pos size
+    small : size < 2 ^ 31
 
-pub turned-le : (y t : ℤ) → Turned y t → natAbs t ≤ 4294967295
-turned-le y t q = let g = q .small in subst (λ (z : ℤ). natAbs z ≤ 4294967295) (sym (q .to)) (omega arith)
+  below : (x : ℤ) → SFits w32 x → leZ (pos 0) x ≡ false → Below x (negsuc 0 -ℤ x)
+  below (pos n) g h = absurd (true≢false (sym (le-leb 0 n (omega arith)) ∙ h))
+  below (negsuc n) g h = record { size = n; from = refl; to = minus-neg n; small = g .sfits }
 
-pub turned-is : (y t : ℤ) → Turned y t → 4294967295 - natAbs t ≡ ofZ w32 y
-turned-is y t q = ap (λ (z : ℤ). 4294967295 - natAbs z) (q .to) ∙ go (q .size) (q .small) ∙ ap (ofZ w32) (sym (q .from))
-  where
-    go : (n : ℕ) → n < 2 ^ 31 → 4294967295 - n ≡ 2 ^ 32 - suc n
-    go n h = omega arith
+  module _ (h : leZ (pos 0) y ≡ false) where
+    q : Below y (negsuc 0 -ℤ y)
+    q = below y (subst (λ (x : ℤ). SFits w32 x) (sym back) f) h
+
+    pub below-fits : SFits w32 (negsuc 0 -ℤ y)
+    below-fits = subst (λ (x : ℤ). SFits w32 x) (sym (q .to)) (record { sfits = q .small })
+
+    kept : toZ w32 (ofZ w32 (negsuc 0 -ℤ y)) ≡ pos (q .size)
+    kept = toZ-ofZ w32 (negsuc 0 -ℤ y) below-fits ∙ q .to
+
+    pub below-cast : T (nonNeg (toZ w32 (ofZ w32 (negsuc 0 -ℤ y)))) × Fits w32 (natAbs (toZ w32 (ofZ w32 (negsuc 0 -ℤ y))))
+    below-cast = let g = q .small in subst (λ (x : ℤ). T (nonNeg x) × Fits w32 (natAbs x)) (sym kept) (tt, record { fits = omega arith })
+
+    pub below-le : natAbs (toZ w32 (ofZ w32 (negsuc 0 -ℤ y))) ≤ 4294967295
+    below-le = let g = q .small in subst (λ (x : ℤ). natAbs x ≤ 4294967295) (sym kept) (omega arith)
+
+    pub below-is : 4294967295 - natAbs (toZ w32 (ofZ w32 (negsuc 0 -ℤ y))) ≡ ofZ w32 z
+    below-is = ap (λ (x : ℤ). 4294967295 - natAbs x) kept ∙ go (q .size) (q .small) ∙ ap (ofZ w32) (sym (q .from) ∙ back)
+      where
+        go : (n : ℕ) → n < 2 ^ 31 → 4294967295 - n ≡ 2 ^ 32 - suc n
+        go n h = omega arith

@@ -1,4 +1,3 @@
-pub mod Bytes
 pub mod FloorDivision
 pub mod Exponent
 pub mod Magnitude

@@ -15,7 +15,7 @@ use Rattle.big_endian.proofs.BigLaws.{number-lt}
 use Rattle.binary64.specs.Value.{signed}
 use Rattle.gds_format.specs.Real8.{real8Value, minMagnitude, maxMagnitude}
 use Rattle.gds_format.specs.Faithful.{Normalized, NormalizedUnique}
-use Rattle.gds_format.proofs.Bytes.{Below, below-is, number-once}
+use Rattle.big_endian.proofs.BytesLaws.{Below, below-is, number-once}
 use Rattle.gds_format.proofs.Pattern.{size-shifted}
 
 -- ---- the fields of normalized bytes

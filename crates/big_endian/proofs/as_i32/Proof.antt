@@ -1,12 +1,5 @@
-use lib.Dec.{T}
-use Prim.Native.Nat.{_-_, _≤_, _<_, _^_}
-use lib.Signed.{nonNeg}
-use lib.IntN.{ℤ, pos, negsuc, natAbs, _-ℤ_}
-use mir.Syntax.{w32}
-use mir.ValLaws.{toZ-ofZ}
-use mir.Val.{SFits, Fits, toZ, ofZ}
-use mathlib.Core.Path.{_≡_, refl, sym, ap, ap₂, _∙_, subst}
-use Rattle.big_endian.proofs.SignedLaws.{signed-fits, signed-is, up-cast, up-is, Turned, turned, turned-fits, turned-cast, turned-le, turned-is}
+-- Each way out by its law. Assumes nothing.
+use Rattle.big_endian.proofs.SignedLaws.{signed-fits, signed-is}
 use borrow.Author.Needs.{needs}
 use Rattle.big_endian.proofs.as_i32.Statement.{statement}
 use Rattle.big_endian.proofs.as_i32.Tie as tie

@@ -1,0 +1,2 @@
+-- What the program computes of each case, and when a case agrees.
+pub mod Case

@@ -1,0 +1,2 @@
+-- What is measured.
+pub mod Place

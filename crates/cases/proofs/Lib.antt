@@ -1,0 +1,5 @@
+-- The computed tests.
+pub mod Open
+pub mod Rows
+pub mod CellsPass
+pub mod StreamsPass

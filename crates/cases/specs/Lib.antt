@@ -1,0 +1,4 @@
+-- Cells and streams with the answers that are known of them, and what it is for the definitions to give these.
+pub mod Case
+pub mod Cells
+pub mod Streams

@@ -1,0 +1,9 @@
+-- Laws of the definitions: demand 3, the order of refusals, measuring and writing.
+pub mod PartLaws
+pub mod ElementLaws
+pub mod ResultLaws
+pub mod DrawsLaws
+pub mod WalkLaws
+pub mod OrderLaws
+pub mod MeasureLaws
+pub mod CauseLaws

@@ -1,0 +1,39 @@
+-- What holds of a result, through checks: S of a refusal with its block, P of what is written. Assumes nothing.
+use mathlib.Core.Path.{_≡_, refl}
+use mathlib.Core.Bool.{Bool, true, false}
+use Prim.Native.Nat.{ℕ}
+use native.Mathlib.Omega.{arith}
+use lib.Dec.{T}
+use Rattle.refusal.specs.declared.Refusal.{Refusal}
+use Rattle.cell.specs.Cell.{Result, stopped, written, check}
+
+abbrev pub Holds : {A : Type 0} → (Refusal → ℕ → Type 0) → (A → Type 0) → Result A → Type 0
+Holds S P (stopped r k) = S r k
+Holds S P (written a es) = P a
+
+pub check-holds : {A : Type 0} (S : Refusal → ℕ → Type 0) (P : A → Type 0) (t : Bool) (r : Refusal) (x : Result A) → ((T t → ⊥) → S r 0) → (T t → Holds S P x) → Holds S P (check t r x)
+check-holds S P true r x f g = g tt
+check-holds S P false r x f g = f (λ z. z)
+
+-- of whatever is written, where nothing is said of a refusal
+abbrev pub Whenever : {A : Type 0} → (A → Type 0) → Result A → Type 0
+Whenever P = Holds (λ r k. T true) P
+
+pub check-whenever : {A : Type 0} (P : A → Type 0) (t : Bool) (r : Refusal) (x : Result A) → (T t → Whenever P x) → Whenever P (check t r x)
+check-whenever P t r x g = check-holds (λ r k. T true) P t r x (λ f. tt) g
+
+-- of every refusal, where nothing is said of what is written
+abbrev pub Stops : {A : Type 0} → (Refusal → ℕ → Type 0) → Result A → Type 0
+Stops S = Holds S (λ a. T true)
+
+pub check-stops : {A : Type 0} (S : Refusal → ℕ → Type 0) (t : Bool) (r : Refusal) (x : Result A) → ((T t → ⊥) → S r 0) → (T t → Stops S x) → Stops S (check t r x)
+check-stops S t r x f g = check-holds S (λ a. T true) t r x f g
+
+-- a check that passes, and one that fails
+pub check-on : {A : Type 0} (t : Bool) (r : Refusal) (x : Result A) → t ≡ true → check t r x ≡ x
+check-on true r x e = refl
+check-on false r x e = let z : _≡_ {A = ℕ} 0 1 = cc in absurd (omega arith)
+
+pub check-off : {A : Type 0} (t : Bool) (r : Refusal) (x : Result A) → t ≡ false → check t r x ≡ stopped r 0
+check-off true r x e = let z : _≡_ {A = ℕ} 0 1 = cc in absurd (omega arith)
+check-off false r x e = refl

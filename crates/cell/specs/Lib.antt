@@ -1,0 +1,9 @@
+-- Writing a cell: checks, conversions, refusals and their order, and what the written structure draws.
+pub mod Limits
+pub mod Stamps
+pub mod Names
+pub mod Write
+pub mod Cell
+pub mod Answer
+pub mod Order
+pub mod Draws

@@ -1,0 +1,10 @@
+-- One conversion, the deviation that it reports, an array's conversions, and an element's report entry; the bounds of demand 3.
+pub mod Field
+pub mod Made
+pub mod Entry
+pub mod Convert
+pub mod Points
+pub mod Array
+pub mod Close
+pub mod Answer
+pub mod Fold

@@ -1,0 +1,60 @@
+// Why a cell is not written (document 01, "Who can cause which refusal").
+ghost use mathlib.Core.Path.{_≡_};
+ghost use Rattle.refusal.specs.Number as Number;
+
+pub enum Refusal {
+    Policy,
+    DatabaseUnit,
+    SheetSize,
+    Pairs,
+    Form,
+    Stamp,
+    Name,
+    PointCount,
+    LayerOrType,
+    StringLength,
+    ColumnsOrRows,
+    Spacing,
+    Magnification,
+    Real,
+    SineOrCosine,
+    SourceUnit,
+    NotFinite,
+    OffGrid,
+    OutOfRange,
+    NotClosed,
+    OutputShort,
+    ReportShort,
+}
+
+impl Refusal {
+    // The number that document 01 gives it.
+    pub fn number(self) -> u8
+        ensures { λ r. ⌜ r ≡ Number.number self ⌝ }
+    {
+        match self {
+            Refusal::Policy => 1,
+            Refusal::DatabaseUnit => 2,
+            Refusal::SheetSize => 3,
+            Refusal::Pairs => 4,
+            Refusal::Form => 5,
+            Refusal::Stamp => 6,
+            Refusal::Name => 7,
+            Refusal::PointCount => 8,
+            Refusal::LayerOrType => 9,
+            Refusal::StringLength => 10,
+            Refusal::ColumnsOrRows => 11,
+            Refusal::Spacing => 12,
+            Refusal::Magnification => 13,
+            Refusal::Real => 14,
+            Refusal::SineOrCosine => 15,
+            Refusal::SourceUnit => 16,
+            Refusal::NotFinite => 17,
+            Refusal::OffGrid => 18,
+            Refusal::OutOfRange => 19,
+            Refusal::NotClosed => 20,
+            Refusal::OutputShort => 21,
+            Refusal::ReportShort => 22,
+        }
+    }
+}

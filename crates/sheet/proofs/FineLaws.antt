@@ -1,0 +1,239 @@
+-- A well-formed block holds what fits. Assumes nothing.
+use mathlib.Core.Path.{_≡_, sym, _∙_, subst}
+use mathlib.Core.Bool.{Bool, true, false, _&&_, cond}
+use mathlib.Core.Option.{Option, none, some}
+use mathlib.Core.List.{List}
+use Prim.Native.Nat.{ℕ, _+_, _^_, _≤_, _<_}
+use native.Mathlib.Nat.{lt-of-not-le}
+use native.Mathlib.Decide.{decLe}
+use native.Mathlib.Omega.{arith}
+use lib.Dec.{T, leb, ltb, eqb, leb→le, ltb→lt, lit<}
+use lib.ListN.{length, take, drop, length-take, List·getD-eq-default}
+use lib.Seq.{getD-take, getD-drop, length-take-le}
+use lib.Ieee.{Float, fits, binary64, ofBits}
+use lib.Ieee.Bits.{ofBits-fits}
+use mir.Val.{toZ}
+use mir.ValLaws.{toZ-fits}
+use mir.Syntax.{w32}
+use Rattle.big_endian.specs.Big.{Bytes, number}
+use Rattle.big_endian.proofs.BigLaws.{number-lt}
+use Rattle.parsing.specs.Parse.{ill, part, illFormed, pure, times, _>>=_}
+use Rattle.parsing.specs.Parse as P
+use Rattle.parsing.specs.All.{All, Opt, absent, present}
+use Rattle.parsing.proofs.ParseLaws.{items-is, no-part, Gives, gives-pure, gives-fail, gives-when, gives-bind, gives-map, gives-times, gives-weaker, gives-whole}
+use Rattle.units.specs.declared.Unit.{Unit}
+use Rattle.units.specs.declared.Unit.the-variants as U
+use Rattle.sheet.specs.Form.{Form, integerKind, doubleKind, absentKind, bytes, num, code, flag, double, string, counted, coordinateOf, coordinate, point, spacingOf, spacing}
+use Rattle.sheet.specs.Element.{Head, Element, polygonKind, pathKind, textKind, nodeKind, referenceKind, property, headForm, shapeForm, pathTypeForm, pathForm, textForm, referenceForm, bodyForm, elementForm, headOf, elementOf}
+use Rattle.sheet.specs.Element as S
+use Rattle.sheet.proofs.Fine.{FineUnit, FinePoint, FineProperty, FineHead, FineShape, FinePath, FineText, FineReference, FineBody, FineElement}
+use Rattle.sheet.proofs.Fine as F
+
+-- ---- bytes
+
+pub take-bytes : (n : ℕ) (s : List ℕ) → Bytes s → Bytes (take n s)
+take-bytes n s h i = elim (decLe n i) [
+  | yes k ↦ subst (λ (z : ℕ). z < 256) (sym (List·getD-eq-default (take n s) 0 {n = i} (short k))) (lit< tt)
+  | no k ↦ subst (λ (z : ℕ). z < 256) (sym (getD-take n s i 0 (lt-of-not-le k))) (h i)
+]
+  where
+    short : n ≤ i → length (take n s) ≤ i
+    short k = omega (arith, length-take n s)
+
+pub drop-bytes : (n : ℕ) (s : List ℕ) → Bytes s → Bytes (drop n s)
+drop-bytes n s h i = subst (λ (z : ℕ). z < 256) (sym (getD-drop n s i 0)) (h (n + i))
+
+-- n bytes
+pub record Run (n : ℕ) (b : List ℕ) : Type 0 where
+  pub bytes : Bytes b
+  pub count : length b ≡ n
+
+bytes-gives : (n : ℕ) → Gives Bytes (bytes n) (Run n)
+bytes-gives n = record {
+  value = λ s a r h e. left s a r h (leb n (length s)) (leb→le n (length s)) (sym (items-is illFormed n s) ∙ e);
+  rest = λ s a r h e. right s a r h (leb n (length s)) (sym (items-is illFormed n s) ∙ e);
+}
+  where
+    left : (s a r : List ℕ) → Bytes s → (c : Bool) → (T c → n ≤ length s) → cond c (part (take n s) (drop n s)) (ill illFormed) ≡ part a r → Run n a
+    left s a r h true k e =
+        let f : take n s ≡ a = cc in
+        subst (λ (z : List ℕ). Run n z) f (record { bytes = take-bytes n s h; count = length-take-le n s (k tt) })
+    left s a r h false k e = no-part e
+
+    right : (s a r : List ℕ) → Bytes s → (c : Bool) → cond c (part (take n s) (drop n s)) (ill illFormed) ≡ part a r → Bytes r
+    right s a r h true e =
+        let f : drop n s ≡ r = cc in
+        subst Bytes f (drop-bytes n s h)
+    right s a r h false e = no-part e
+
+-- ---- parts: one line for each
+
+bind : {A B : Type 0} {Q : A → Type 0} {R : B → Type 0} {p : Form A} {f : A → Form B} → Gives Bytes p Q → ((a : A) → Q a → Gives Bytes (f a) R) → Gives Bytes (p >>= f) R
+bind {A} {B} {Q} {R} {p} {f} g k = gives-bind Bytes p f g k
+
+-- one of two forms, by a test
+either : {A : Type 0} {Q : A → Type 0} (t : Bool) {p q : Form A} → Gives Bytes p Q → Gives Bytes q Q → Gives Bytes (cond t p q) Q
+either true g h = g
+either false g h = h
+
+-- nothing to say of it
+Any : {A : Type 0} → A → Type 0
+Any a = T true
+
+num-gives : (k : ℕ) → Gives Bytes (num k) (λ n. n < 256 ^ k)
+unfolding num
+num-gives k = gives-map Bytes number (bytes k) (bytes-gives k) (λ b h. subst (λ (i : ℕ). number b < 256 ^ i) (h .count) (number-lt b (h .bytes)))
+
+code-gives : (n : ℕ) → Gives Bytes (code n) (λ b. b ≤ n)
+unfolding code
+code-gives n = bind (num-gives 1) (λ b h. gives-when Bytes illFormed (leb b n) (pure b) (λ t. gives-pure Bytes b (leb→le b n t)))
+
+flag-gives : Gives Bytes flag Any
+unfolding flag Any
+flag-gives = gives-map Bytes (λ b. eqb b 1) (code 1) (code-gives 1) (λ b h. tt)
+
+double-gives : Gives Bytes double (λ x. T (fits binary64 x))
+unfolding double
+double-gives = gives-map Bytes (ofBits binary64) (num 8) (num-gives 8) (λ b h. ofBits-fits binary64 b)
+
+string-gives : Gives Bytes string Bytes
+unfolding string
+string-gives = bind (num-gives 2) (λ n h. gives-weaker Bytes (bytes n) (λ b k. k .bytes) (bytes-gives n))
+
+counted-gives : {A : Type 0} {Q : A → Type 0} (p : Form A) → Gives Bytes p Q → Gives Bytes (counted p) (All Q)
+unfolding counted
+counted-gives p g = bind (num-gives 2) (λ n h. gives-weaker Bytes (times n p) (λ s k. k .all) (gives-times Bytes n p g))
+
+-- ---- coordinates
+
+kind-gives : (k v u : ℕ) → Gives Bytes (coordinateOf k v u) (Opt FineUnit)
+unfolding coordinateOf
+kind-gives k v u =
+    either (eqb k integerKind)
+    (gives-when Bytes illFormed (ltb v (2 ^ 32)) _
+    (λ t. gives-pure Bytes (some (U.Integer (toZ w32 v) (ofBits binary64 u))) (present (toZ-fits w32 v (record { fits = ltb→lt v (2 ^ 32) t })))))
+    (either (eqb k doubleKind) (gives-pure Bytes (some (U.Float (ofBits binary64 v) (ofBits binary64 u))) (present tt))
+    (either (eqb k absentKind) (gives-when Bytes illFormed (eqb v 0 && eqb u 0) _ (λ t. gives-pure Bytes none absent))
+    (gives-fail Bytes illFormed)))
+
+coordinate-gives : Gives Bytes coordinate (Opt FineUnit)
+unfolding coordinate
+coordinate-gives = bind (num-gives 1) (λ k hk. bind (num-gives 8) (λ v hv. bind (num-gives 8) (λ u hu. kind-gives k v u)))
+
+present-gives : (x : Option Unit) → Opt FineUnit x → Gives Bytes (P.present illFormed x) FineUnit
+present-gives none h = gives-fail Bytes illFormed
+present-gives (some u) (present h) = gives-pure Bytes u h
+
+point-gives : Gives Bytes point FinePoint
+unfolding point
+point-gives =
+    bind (bind coordinate-gives present-gives)
+    (λ x hx. bind (bind coordinate-gives present-gives)
+    (λ y hy. gives-pure Bytes _ (record { x = hx; y = hy })))
+
+-- absent, or not: only the form is checked
+spacing-gives : Gives Bytes spacing Any
+unfolding spacing spacingOf Any
+spacing-gives = bind coordinate-gives (λ x hx. bind coordinate-gives (λ y hy. go x y))
+  where
+    go : (x y : Option Unit) → Gives Bytes (spacingOf x y) (λ s. T true)
+    go none none = gives-pure Bytes none tt
+    go none (some y) = gives-fail Bytes illFormed
+    go (some x) none = gives-fail Bytes illFormed
+    go (some x) (some y) = gives-pure Bytes _ tt
+
+-- ---- blocks
+
+property-gives : Gives Bytes property FineProperty
+unfolding property
+property-gives = bind (num-gives 2) (λ a ha. bind string-gives (λ v hv. gives-pure Bytes _ (record { attribute = ha; value = hv })))
+
+head-gives : Gives Bytes headForm FineHead
+unfolding headForm
+head-gives =
+    bind string-gives
+    (λ n hn. bind (gives-times Bytes 12 (num 2) (num-gives 2))
+    (λ t ht. gives-pure Bytes _ (record { name = hn; stamps = ht .all; twelve = ht .count })))
+
+shape-gives : Gives Bytes shapeForm FineShape
+unfolding shapeForm
+shape-gives =
+    bind (num-gives 2)
+    (λ l hl. bind (num-gives 2)
+    (λ t ht. bind (counted-gives point point-gives)
+    (λ ps hp. gives-pure Bytes _ (record { points = hp }))))
+
+path-type-gives : Gives Bytes pathTypeForm (Opt (λ n. n ≤ 2))
+unfolding pathTypeForm
+path-type-gives =
+    bind (num-gives 1)
+    (λ b hb. either (eqb b 255) (gives-pure Bytes none absent)
+    (gives-when Bytes illFormed (leb b 2) (pure (some b)) (λ t. gives-pure Bytes (some b) (present (leb→le b 2 t)))))
+
+path-gives : Gives Bytes pathForm FinePath
+unfolding pathForm
+path-gives =
+    bind (num-gives 2)
+    (λ l hl. bind (num-gives 2)
+    (λ t ht. bind path-type-gives
+    (λ k hk. bind coordinate-gives
+    (λ w hw. bind coordinate-gives
+    (λ b hb. bind coordinate-gives
+    (λ e he. bind (counted-gives point point-gives)
+    (λ ps hp. gives-pure Bytes _ (record { pathType = hk; width = hw; begin = hb; end = he; points = hp }))))))))
+
+text-gives : Gives Bytes textForm FineText
+unfolding textForm
+text-gives =
+    bind (num-gives 2)
+    (λ l hl. bind (num-gives 2)
+    (λ t ht. bind (code-gives 2)
+    (λ v hv. bind (code-gives 2)
+    (λ h hh. bind flag-gives
+    (λ r hr. bind double-gives
+    (λ m hm. bind double-gives
+    (λ a ha. bind point-gives
+    (λ o ho. bind string-gives
+    (λ s hs. gives-pure Bytes _ (record { texttype = ht; vertical = hv; horizontal = hh; magnification = hm; degrees = ha; origin = ho; string = hs }))))))))))
+
+reference-gives : Gives Bytes referenceForm FineReference
+unfolding referenceForm
+reference-gives =
+    bind string-gives
+    (λ n hn. bind (num-gives 4)
+    (λ c hc. bind (num-gives 4)
+    (λ w hw. bind flag-gives
+    (λ r hr. bind double-gives
+    (λ m hm. bind double-gives
+    (λ a ha. bind double-gives
+    (λ si hsi. bind double-gives
+    (λ co hco. bind point-gives
+    (λ o ho. bind spacing-gives
+    (λ sc hsc. bind spacing-gives
+    (λ sr hsr. gives-pure Bytes _ (record { name = hn; magnification = hm; degrees = ha; origin = ho }))))))))))))
+
+body-gives : (k : ℕ) → Gives Bytes (bodyForm k) FineBody
+unfolding bodyForm
+body-gives k =
+    either (eqb k polygonKind) (gives-map Bytes S.polygon shapeForm shape-gives (λ e h. F.polygon h))
+    (either (eqb k pathKind) (gives-map Bytes S.path pathForm path-gives (λ e h. F.path h))
+    (either (eqb k textKind) (gives-map Bytes S.text textForm text-gives (λ e h. F.text h))
+    (either (eqb k nodeKind) (gives-map Bytes S.node shapeForm shape-gives (λ e h. F.node h))
+    (either (eqb k referenceKind) (gives-map Bytes S.reference referenceForm reference-gives (λ e h. F.reference h))
+    (gives-fail Bytes illFormed)))))
+
+element-gives : Gives Bytes elementForm FineElement
+unfolding elementForm
+element-gives =
+    bind (num-gives 1)
+    (λ k hk. bind (body-gives k)
+    (λ b hb. bind (counted-gives property property-gives)
+    (λ qs hq. gives-pure Bytes _ (record { body = hb; properties = hq }))))
+
+pub element-fine : (b : List ℕ) (e : Element) → Bytes b → elementOf b ≡ some e → FineElement e
+unfolding elementOf
+element-fine b e h k = gives-whole Bytes elementForm b e element-gives h k
+
+pub head-fine : (b : List ℕ) (h : Head) → Bytes b → headOf b ≡ some h → FineHead h
+unfolding headOf
+head-fine b h k e = gives-whole Bytes headForm b h head-gives k e

@@ -1,0 +1,64 @@
+-- Each part of an element puts its own records in front of the rest, and an element has at least one. Assumes nothing.
+use mathlib.Core.Path.{_≡_, refl, ap, _∙_}
+use mathlib.Core.Option.{Option, none, some}
+use mathlib.Core.List.{List, [], _∷_, _++_}
+use Prim.Native.Nat.{ℕ, _+_, _<_}
+use native.Mathlib.Omega.{arith}
+use lib.ListN.{length, drop, length-append}
+use Rattle.stream.specs.Record.{Rec, BOUNDARY, PATH, SREF, AREF, TEXT, NODE}
+use Rattle.stream.specs.Structure.{Property, Strans, SaidBody, Said}
+use Rattle.stream.specs.Structure as S
+use Rattle.stream.specs.Records.{emptyRecord, opt, stransRecords, shapeRecords, pathRecords, textRecords, srefRecords, arefRecords, bodyRecords, tailRecords, elementRecords}
+
+opt-append : {A : Type 0} (f : A → Rec) (x : Option A) (a b : List Rec) → opt f x a ++ b ≡ opt f x (a ++ b)
+unfolding opt
+opt-append f none a b = refl
+opt-append f (some v) a b = refl
+
+strans-append : (t : Option Strans) (a b : List Rec) → stransRecords t a ++ b ≡ stransRecords t (a ++ b)
+unfolding stransRecords
+strans-append none a b = refl
+strans-append (some t) a b = simp opt-append
+
+tail-append : (qs : List Property) (a b : List Rec) → tailRecords qs a ++ b ≡ tailRecords qs (a ++ b)
+unfolding tailRecords
+tail-append [] a b = refl
+tail-append (q ∷ qs) a b = simp (tail-append qs)
+
+body-append : (w : SaidBody) (a b : List Rec) → bodyRecords w a ++ b ≡ bodyRecords w (a ++ b)
+unfolding shapeRecords pathRecords textRecords srefRecords arefRecords
+body-append (S.boundary e) a b = refl
+body-append (S.path e) a b = simp opt-append
+body-append (S.text e) a b = simp (opt-append, strans-append)
+body-append (S.node e) a b = refl
+body-append (S.sref e) a b = simp strans-append
+body-append (S.aref e) a b = simp strans-append
+
+pub element-append : (w : Said) (a b : List Rec) → elementRecords w a ++ b ≡ elementRecords w (a ++ b)
+element-append w a b = body-append (w .body) (tailRecords (w .properties) a) b ∙ ap (bodyRecords (w .body)) (tail-append (w .properties) a b)
+
+-- ---- the first record
+
+-- the code of a body's first record
+abbrev pub codeOf : SaidBody → ℕ
+codeOf (S.boundary e) = BOUNDARY
+codeOf (S.path e) = PATH
+codeOf (S.text e) = TEXT
+codeOf (S.node e) = NODE
+codeOf (S.sref e) = SREF
+codeOf (S.aref e) = AREF
+
+pub first-is : (w : SaidBody) (rest : List Rec) → bodyRecords w rest ≡ emptyRecord (codeOf w) ∷ drop 1 (bodyRecords w rest)
+unfolding shapeRecords pathRecords textRecords srefRecords arefRecords
+first-is (S.boundary e) rest = refl
+first-is (S.path e) rest = refl
+first-is (S.text e) rest = refl
+first-is (S.node e) rest = refl
+first-is (S.sref e) rest = refl
+first-is (S.aref e) rest = refl
+
+pub element-longer : (w : Said) (rest : List Rec) → length rest < length (elementRecords w rest)
+element-longer w rest =
+    let e = ap length (element-append w [] rest) in
+    let f = ap length (first-is (w .body) (tailRecords (w .properties) [])) in
+    omega (arith, length-append (elementRecords w []) rest)

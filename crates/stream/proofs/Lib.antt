@@ -1,0 +1,11 @@
+-- Laws of the stream: bytes and records, records and the grammar, and both together.
+pub mod Fit
+pub mod StringLaws
+pub mod RecordLaws
+pub mod RunLaws
+pub mod AppendLaws
+pub mod ReadLaws
+pub mod GoodLaws
+pub mod BytesLaws
+pub mod BackLaws
+pub mod FaultLaws

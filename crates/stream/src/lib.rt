@@ -1,0 +1,1 @@
+// Records, what they draw, and reading them: definitions in specs/, laws in proofs/.

@@ -1,0 +1,2 @@
+-- An array's coordinates go through doubles and keep their unit and physical value.
+pub mod FloatUnit
