@@ -5,7 +5,7 @@ use Prim.Native.Nat.{ℕ, _+_}
 use lib.ListN.{length, length-append}
 use Rattle.stream.specs.Record.{Rec, STRNAME, ENDSTR, recordBytes, streamBytes}
 use Rattle.stream.specs.Structure.{Said, Structure}
-use Rattle.stream.specs.Records.{emptyRecord, stringRecord, stampsRecord, elementRecords, elementsRecords, structureRecords}
+use Rattle.stream.specs.Records.{emptyRecord, stringRecord, stampsRecord, elementRecords, elementsRecords, elementBytes, elementsBytes, structureRecords}
 use Rattle.stream.proofs.AppendLaws.{element-append}
 
 -- ---- records in a row
@@ -27,15 +27,6 @@ stream-length [] = refl
 stream-length (r ∷ rs) = length-append (recordBytes r) (streamBytes rs) ∙ ap (λ (n : ℕ). length (recordBytes r) + n) (stream-length rs)
 
 -- ---- a structure
-
--- the bytes of one element
-unfoldable pub elementBytes : Said → List ℕ
-elementBytes w = streamBytes (elementRecords w [])
-
--- the bytes of elements in turn
-unfoldable pub elementsBytes : List Said → List ℕ
-elementsBytes [] = []
-elementsBytes (w ∷ ws) = elementBytes w ++ elementsBytes ws
 
 -- BGNSTR and STRNAME, and ENDSTR
 unfoldable pub headBytes : List ℕ → List ℕ → List ℕ

@@ -8,7 +8,7 @@ use mir.Val.{ofZ}
 use mir.Syntax.{w32}
 use Rattle.big_endian.specs.Big.{bytesOf}
 use Rattle.units.specs.Point.{Point, endpoint}
-use Rattle.stream.specs.Record.{Rec, BGNSTR, STRNAME, ENDSTR, BOUNDARY, PATH, SREF, AREF, TEXT, LAYER, DATATYPE, WIDTH, XY, ENDEL, SNAME, COLROW, NODE, TEXTTYPE, PRESENTATION, STRING, STRANS, MAG, ANGLE, PATHTYPE, NODETYPE, PROPATTR, PROPVALUE, BGNEXTN, ENDEXTN, noData, bitArray, twoByte, fourByte, eightByteReal, asciiString}
+use Rattle.stream.specs.Record.{Rec, BGNSTR, STRNAME, ENDSTR, BOUNDARY, PATH, SREF, AREF, TEXT, LAYER, DATATYPE, WIDTH, XY, ENDEL, SNAME, COLROW, NODE, TEXTTYPE, PRESENTATION, STRING, STRANS, MAG, ANGLE, PATHTYPE, NODETYPE, PROPATTR, PROPVALUE, BGNEXTN, ENDEXTN, noData, bitArray, twoByte, fourByte, eightByteReal, asciiString, streamBytes}
 use Rattle.stream.specs.Structure.{Property, Strans, Shape, Path, Text, Sref, Aref, boundary, path, text, node, sref, aref, SaidBody, Said, Structure}
 
 -- ---- one record
@@ -148,3 +148,14 @@ elementsRecords (e ∷ es) rest = elementRecords e (elementsRecords es rest)
 unfoldable pub structureRecords : Structure → List Rec
 structureRecords s =
     stampsRecord (s .stamps) ∷ stringRecord STRNAME (s .name) ∷ elementsRecords (s .elements) (emptyRecord ENDSTR ∷ [])
+
+-- ---- bytes
+
+-- the bytes of one element's records
+unfoldable pub elementBytes : Said → List ℕ
+elementBytes w = streamBytes (elementRecords w [])
+
+-- "Each element is written into the part of the output that starts where the last ended."
+unfoldable pub elementsBytes : List Said → List ℕ
+elementsBytes [] = []
+elementsBytes (w ∷ ws) = elementBytes w ++ elementsBytes ws

@@ -1,0 +1,86 @@
+-- `array::convert_spacings` meets its contract: both spacings, turned, and then the steps. Assumes nothing.
+use mathlib.Core.Path.{_∙_}
+use Rattle.forms.specs.Place.{spacingAt}
+use Rattle.array.specs.Corners.{physicalPart, databasePart}
+use Rattle.array.proofs.CornerLaws.{column-spacing-stops, row-spacing-stops, spacings-made}
+use borrow.Author.Needs.{needs}
+use Rattle.array.proofs.convert_spacings.Statement.{statement}
+use Rattle.array.proofs.convert_spacings.Tie as tie
+
+physical-spacing-requires : tie.Need-physical-spacing-requires
+physical-spacing-requires c κs = search needs
+
+enum-known-refusal : tie.Need-enum-known-refusal
+enum-known-refusal c = search needs
+
+enum-known-column : tie.Need-enum-known-column
+enum-known-column c = search needs
+
+physical-spacing-requires-2 : tie.Need-physical-spacing-requires-2
+physical-spacing-requires-2 c κs = search needs
+
+enum-known-refusal2 : tie.Need-enum-known-refusal2
+enum-known-refusal2 c = search needs
+
+enum-known-row : tie.Need-enum-known-row
+enum-known-row c = search needs
+
+turned-requires : tie.Need-turned-requires
+turned-requires c κs = search needs
+
+turned-requires-2 : tie.Need-turned-requires-2
+turned-requires-2 c κs = search needs
+
+convert-steps-requires : tie.Need-convert-steps-requires
+convert-steps-requires c κs = search needs
+
+returns : tie.Need-returns
+returns c =
+    let a = c .before .before .before .before .before .args in
+    let v = c .before .before .before .physical-spacing in
+    let s = a .s in
+    let b = a .b .now in
+    let o = a .origin in
+    let g = c .before .refusal .given in
+    column-spacing-stops (a .policy) (a .d) (s .columns) (s .rows) (s .sine) (s .cosine) (spacingAt b (s .column)) (spacingAt b (s .row)) (physicalPart o) (databasePart o) (a .entry) (v .result) (v .ensures) (g .0 .0) (g .1)
+
+returns-2 : tie.Need-returns-2
+returns-2 c =
+    let a = c .before .before .before .before .before .before .before .before .before .args in
+    let v = c .before .before .before .before .before .before .before .physical-spacing in
+    let s = a .s in
+    let b = a .b .now in
+    let o = a .origin in
+    let g = c .before .before .before .before .before .column .given in
+    let w = c .before .before .before .physical-spacing2 in
+    let k = c .before .refusal2 .given in
+    row-spacing-stops (a .policy) (a .d) (s .columns) (s .rows) (s .sine) (s .cosine) (spacingAt b (s .column)) (spacingAt b (s .row)) (physicalPart o) (databasePart o) (a .entry) (v .result) (v .ensures) (g .0 .0) (g .1) (w .result) (w .ensures) (k .0 .0) (k .1)
+
+returns-3 : tie.Need-returns-3
+returns-3 c =
+    let a = c .before .before .before .before .before .before .before .before .before .before .before .before .args in
+    let v = c .before .before .before .before .before .before .before .before .before .before .physical-spacing in
+    let s = a .s in
+    let b = a .b .now in
+    let o = a .origin in
+    let g = c .before .before .before .before .before .before .before .before .column .given in
+    let w = c .before .before .before .before .before .before .physical-spacing2 in
+    let k = c .before .before .before .before .row .given in
+    c .convert-steps .ensures ∙ spacings-made (a .policy) (a .d) (s .columns) (s .rows) (s .sine) (s .cosine) (spacingAt b (s .column)) (spacingAt b (s .row)) (physicalPart o) (databasePart o) (a .entry) (v .result) (v .ensures) (g .0 .0) (g .1) (w .result) (w .ensures) (k .0 .0) (k .1) _ _ (c .before .before .turned .ensures) (c .before .turned2 .ensures)
+
+pub convert-spacings-spec : {M : Type 1} → statement M
+convert-spacings-spec =
+    tie.close
+    (tie.spec
+    physical-spacing-requires
+    enum-known-refusal
+    enum-known-column
+    physical-spacing-requires-2
+    enum-known-refusal2
+    enum-known-row
+    turned-requires
+    turned-requires-2
+    convert-steps-requires
+    returns
+    returns-2
+    returns-3)

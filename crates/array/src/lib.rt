@@ -1,0 +1,300 @@
+// The conversions of an array (`write_reference_cell` of write/mod.rs): always through doubles, with no bypass, and the element's entry with them.
+ghost use mathlib.Core.Path.{_≡_};
+ghost use Prim.Native.Nat.{_+_, _≤_, _<_};
+ghost use lib.ListN.{length};
+ghost use Rattle.conversion.specs.declared.GdsRoundingPolicy as Policy;
+ghost use Rattle.conversion.specs.Answer.{pointOf};
+ghost use Rattle.conversion.specs.Array.{physicalPoint, physicalSpacing, writePhysical, writeEndpoint, convertArray};
+ghost use Rattle.conversion.specs.Fold.{run};
+ghost use Rattle.forms.specs.Place.{pointAt, spacingAt};
+ghost use Rattle.forms.specs.Forms.{ReferenceIn};
+ghost use Rattle.array.specs.declared.Array.the-variants as Answer;
+ghost use Rattle.array.specs.Corners.{physicalsOf, physicalPart, databasePart, Converts, endOf, Ends, cornered, afterSteps, afterSpacings, afterOrigin};
+use conversion::Entry;
+use conversion::GdsRoundingPolicy;
+use conversion::PhysicalPoint;
+use conversion::PhysicalValue;
+use forms::ReferencePlaces;
+use points::Pointed;
+use points::Valued;
+use refusal::Refusal;
+
+// The bytes of a coordinate on the sheet.
+const COORDINATE: usize = 17;
+
+// The physical values of a point, or why there are none.
+pub enum Physical {
+    Refused { refusal: Refusal },
+    At { point: PhysicalPoint },
+}
+
+// The origin or a step of an array: its physical values, and those on the grid.
+pub struct ArrayPoint {
+    pub px: f64,
+    pub py: f64,
+    pub x: i32,
+    pub y: i32,
+}
+
+pub enum Converted {
+    Refused { refusal: Refusal },
+    At { point: ArrayPoint, entry: Entry },
+}
+
+// An array on the grid: its origin (x0, y0), its column step (ax, ay), its row step (bx, by), and the endpoints of its columns (x1, y1) and its rows (x2, y2).
+pub struct Corners {
+    pub x0: i32,
+    pub y0: i32,
+    pub ax: i32,
+    pub ay: i32,
+    pub bx: i32,
+    pub by: i32,
+    pub x1: i32,
+    pub y1: i32,
+    pub x2: i32,
+    pub y2: i32,
+}
+
+pub enum Array {
+    Refused { refusal: Refusal },
+    Converted { corners: Corners, entry: Entry },
+}
+
+// ---- physical values
+
+// Those of the point at a place of the block, x before y.
+fn physical_point(b: &[u8], at: usize) -> Physical
+    requires { ⌜ at + 34 ≤ length (now b) ⌝ }
+    ensures { λ r. ⌜ physicalsOf r ≡ physicalPoint (pointAt (now (b .entry)) at) ⌝ }
+{
+    match conversion::physical_value(forms::unit_at(b, at)) {
+        PhysicalValue::Refused { refusal } => Physical::Refused { refusal },
+        PhysicalValue::At { value: x } => {
+            match conversion::physical_value(forms::unit_at(b, at + COORDINATE)) {
+                PhysicalValue::Refused { refusal: refusal2 } => Physical::Refused {
+                    refusal: refusal2,
+                },
+                PhysicalValue::At { value: y } => Physical::At {
+                    point: PhysicalPoint { x, y },
+                },
+            }
+        }
+    }
+}
+
+// Those of a spacing: zero where it is absent.
+fn physical_spacing(b: &[u8], at: usize) -> Physical
+    requires { ⌜ at + 34 ≤ length (now b) ⌝ }
+    ensures { λ r. ⌜ physicalsOf r ≡ physicalSpacing (spacingAt (now (b .entry)) at) ⌝ }
+{
+    if forms::is_absent(b, at) {
+        return Physical::At {
+            point: PhysicalPoint { x: 0.0, y: 0.0 },
+        };
+    }
+    physical_point(b, at)
+}
+
+// ---- to the grid
+
+// Two physical values, x before y.
+fn convert_physical_point(
+    policy: GdsRoundingPolicy,
+    d: f64,
+    p: PhysicalPoint,
+    field: u8,
+    entry: Entry,
+) -> Converted
+    requires { ⌜ entry .count < 4294967294 ⌝ }
+    ensures { λ r. ⌜ Converts entry (pointOf p) (writePhysical policy d field (pointOf p)) r ⌝ }
+{
+    let a = conversion::convert_physical(policy, d, p.x);
+    match points::record_quantization(a, field, conversion::X_AXIS, 0, entry) {
+        Valued::Refused { refusal } => Converted::Refused { refusal },
+        Valued::At { value: x, entry: e } => {
+            let b = conversion::convert_physical(policy, d, p.y);
+            match points::record_quantization(b, field, conversion::Y_AXIS, 0, e) {
+                Valued::Refused { refusal: refusal2 } => Converted::Refused { refusal: refusal2 },
+                Valued::At {
+                    value: y,
+                    entry: more,
+                } => Converted::At {
+                    point: ArrayPoint {
+                        px: p.x,
+                        py: p.y,
+                        x,
+                        y,
+                    },
+                    entry: more,
+                },
+            }
+        }
+    }
+}
+
+// n steps from the origin, x before y.
+fn convert_endpoint(
+    d: f64,
+    origin: ArrayPoint,
+    step: ArrayPoint,
+    n: u32,
+    field: u8,
+    entry: Entry,
+) -> Pointed
+    requires { ⌜ entry .count < 4294967294 ⌝ }
+    ensures { λ r. ⌜ ((policy : Policy.GdsRoundingPolicy) → Ends entry (endOf (databasePart origin) (databasePart step) n) (writeEndpoint policy d field (databasePart origin) (databasePart step) n (physicalPart origin) (physicalPart step)) r) ⌝ }
+{
+    let p = conversion::endpoint_physical(step.px, n, origin.px);
+    let a = conversion::checked_array_endpoint(d, origin.x, step.x, n, p);
+    match points::record_quantization(a, field, conversion::X_AXIS, 0, entry) {
+        Valued::Refused { refusal } => Pointed::Refused { refusal },
+        Valued::At { value: x, entry: e } => {
+            let q = conversion::endpoint_physical(step.py, n, origin.py);
+            let b = conversion::checked_array_endpoint(d, origin.y, step.y, n, q);
+            match points::record_quantization(b, field, conversion::Y_AXIS, 0, e) {
+                Valued::Refused { refusal: refusal2 } => Pointed::Refused { refusal: refusal2 },
+                Valued::At {
+                    value: y,
+                    entry: more,
+                } => Pointed::At { x, y, entry: more },
+            }
+        }
+    }
+}
+
+// ---- the array, part by part
+
+// The endpoints, columns before rows.
+fn convert_endpoints(
+    d: f64,
+    columns: u32,
+    rows: u32,
+    origin: ArrayPoint,
+    column: ArrayPoint,
+    row: ArrayPoint,
+    entry: Entry,
+) -> Array
+    requires { ⌜ entry .count ≤ 22 ⌝ }
+    ensures { λ r. ⌜ ((policy : Policy.GdsRoundingPolicy) → r ≡ run Answer.Refused entry (afterSteps policy d columns rows (physicalPart origin) (databasePart origin) (physicalPart column) (physicalPart row) (databasePart column) (databasePart row)) (cornered columns rows)) ⌝ }
+{
+    match convert_endpoint(
+        d,
+        origin,
+        column,
+        columns,
+        conversion::COLUMN_ENDPOINT_FIELD,
+        entry,
+    ) {
+        Pointed::Refused { refusal } => Array::Refused { refusal },
+        Pointed::At {
+            x: x1,
+            y: y1,
+            entry: e,
+        } => {
+            match convert_endpoint(d, origin, row, rows, conversion::ROW_ENDPOINT_FIELD, e) {
+                Pointed::Refused { refusal: refusal2 } => Array::Refused { refusal: refusal2 },
+                Pointed::At {
+                    x: x2,
+                    y: y2,
+                    entry: more,
+                } => Array::Converted {
+                    corners: Corners {
+                        x0: origin.x,
+                        y0: origin.y,
+                        ax: column.x,
+                        ay: column.y,
+                        bx: row.x,
+                        by: row.y,
+                        x1,
+                        y1,
+                        x2,
+                        y2,
+                    },
+                    entry: more,
+                },
+            }
+        }
+    }
+}
+
+// The steps, which are the turned spacings on the grid, and the endpoints.
+fn convert_steps(
+    policy: GdsRoundingPolicy,
+    d: f64,
+    columns: u32,
+    rows: u32,
+    origin: ArrayPoint,
+    column: PhysicalPoint,
+    row: PhysicalPoint,
+    entry: Entry,
+) -> Array
+    requires { ⌜ entry .count ≤ 18 ⌝ }
+    ensures { λ r. ⌜ r ≡ run Answer.Refused entry (afterSpacings policy d columns rows (physicalPart origin) (databasePart origin) (pointOf column) (pointOf row)) (cornered columns rows) ⌝ }
+{
+    match convert_physical_point(policy, d, column, conversion::COLUMN_SPACING_FIELD, entry) {
+        Converted::Refused { refusal } => Array::Refused { refusal },
+        Converted::At { point: a, entry: e } => {
+            match convert_physical_point(policy, d, row, conversion::ROW_SPACING_FIELD, e) {
+                Converted::Refused { refusal: refusal2 } => Array::Refused { refusal: refusal2 },
+                Converted::At {
+                    point: b,
+                    entry: more,
+                } => { convert_endpoints(d, columns, rows, origin, a, b, more) }
+            }
+        }
+    }
+}
+
+// The spacings turned, and the steps: all four physical values before the first is converted.
+fn convert_spacings(
+    policy: GdsRoundingPolicy,
+    d: f64,
+    b: &[u8],
+    s: ReferencePlaces,
+    origin: ArrayPoint,
+    entry: Entry,
+) -> Array
+    requires { ⌜ ReferenceIn (now b) s ⌝ }
+    requires { ⌜ entry .count ≤ 18 ⌝ }
+    ensures { λ r. ⌜ r ≡ run Answer.Refused entry (afterOrigin policy d (s .columns) (s .rows) (s .sine) (s .cosine) (spacingAt (now (b .entry)) (s .column)) (spacingAt (now (b .entry)) (s .row)) (physicalPart origin) (databasePart origin)) (cornered (s .columns) (s .rows)) ⌝ }
+{
+    match physical_spacing(b, s.column) {
+        Physical::Refused { refusal } => Array::Refused { refusal },
+        Physical::At { point: column } => {
+            match physical_spacing(b, s.row) {
+                Physical::Refused { refusal: refusal2 } => Array::Refused { refusal: refusal2 },
+                Physical::At { point: row } => {
+                    let a = conversion::turned(s.sine, s.cosine, column);
+                    let c = conversion::turned(s.sine, s.cosine, row);
+                    convert_steps(policy, d, s.columns, s.rows, origin, a, c, entry)
+                }
+            }
+        }
+    }
+}
+
+// The array of a reference: the origin, the spacings, the endpoints.
+pub fn convert_array(
+    policy: GdsRoundingPolicy,
+    d: f64,
+    b: &[u8],
+    s: ReferencePlaces,
+    entry: Entry,
+) -> Array
+    requires { ⌜ ReferenceIn (now b) s ⌝ }
+    requires { ⌜ entry .count ≤ 16 ⌝ }
+    ensures { λ r. ⌜ r ≡ run Answer.Refused entry (convertArray policy d (s .sine) (s .cosine) (s .columns) (s .rows) (pointAt (now (b .entry)) (s .origin)) (spacingAt (now (b .entry)) (s .column)) (spacingAt (now (b .entry)) (s .row))) (cornered (s .columns) (s .rows)) ⌝ }
+{
+    match physical_point(b, s.origin) {
+        Physical::Refused { refusal } => Array::Refused { refusal },
+        Physical::At { point } => {
+            match convert_physical_point(policy, d, point, conversion::ORIGIN_FIELD, entry) {
+                Converted::Refused { refusal: refusal2 } => Array::Refused { refusal: refusal2 },
+                Converted::At {
+                    point: origin,
+                    entry: e,
+                } => { convert_spacings(policy, d, b, s, origin, e) }
+            }
+        }
+    }
+}

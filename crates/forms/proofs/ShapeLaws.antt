@@ -1,0 +1,67 @@
+-- The form of a polygon or a node: one law for each way out of its check. Assumes nothing.
+use mathlib.Core.Path.{_≡_, refl, ap}
+use mathlib.Core.Bool.{Bool, true, false, cond, not}
+use mathlib.Core.List.{List}
+use Prim.Native.Nat.{ℕ, _+_, _*_, _≤_, _<_}
+use native.Mathlib.Omega.{arith}
+use lib.ListN.{length, drop, length-drop}
+use Rattle.big_endian.specs.Big.{numberAt}
+use Rattle.parsing.specs.Parse.{ill, illFormed, times}
+use Rattle.sheet.specs.Form.{num, counted, point}
+use Rattle.sheet.specs.Element.{polygon, node, polygonKind, nodeKind, shapeForm, bodyForm}
+use Rattle.forms.specs.declared.ShapePlaces.{ShapePlaces}
+use Rattle.forms.specs.declared.BodyPlaces.the-variants as B
+use Rattle.forms.specs.declared.BodyForm.the-variants as F
+use Rattle.forms.specs.Place.{pointsFrom}
+use Rattle.forms.specs.Forms.{shapeAt, ShapeIn}
+use Rattle.forms.specs.Checks.{Checked, BodyRead}
+use Rattle.forms.proofs.Step.{layer-type, checked, failed}
+use Rattle.forms.proofs.Sized.{sized-num, sized-times, sized-point, sized-within, Needs, needs-bind, needs-front, counted-needs}
+use Rattle.forms.proofs.PropertyLaws.{counted-at}
+use Rattle.forms.proofs.BodyLaws.{then-is, body-ill, body-is}
+
+shape-needs : Needs 6 shapeForm
+unfolding shapeForm
+shape-needs = needs-bind 2 4 6 (num 2) _ refl (sized-num 2) (λ l. needs-bind 2 2 4 (num 2) _ refl (sized-num 2) (λ t. needs-front 2 (counted point) _ (counted-needs point)))
+
+-- as a polygon or as a node
+abbrev kind : Bool → ℕ
+kind t = cond t nodeKind polygonKind
+
+shape-ill : (b : List ℕ) (t : Bool) → shapeForm (drop 1 b) ≡ ill illFormed → BodyRead (kind t) b F.Ill
+unfolding bodyForm
+shape-ill b true e = body-ill shapeForm node nodeKind refl b e
+shape-ill b false e = body-ill shapeForm polygon polygonKind refl b e
+
+module _ (b : List ℕ) where
+  pub shape-short : (t : Bool) → length b < 7 → BodyRead (kind t) b F.Ill
+  shape-short t l = shape-ill b t (shape-needs (drop 1 b) (simp length-drop (omega arith)))
+
+  module _ (n : ℕ) (h : 7 ≤ length b) (e : n ≡ numberAt 2 b 5) {r : Bool} (w : Checked (times n point) b 7 (pointsFrom n b 7) (7 + 34 * n) r) where
+    shape-by : Checked shapeForm b 1 (record { layer = numberAt 2 b 1; datatype = numberAt 2 b 3; points = pointsFrom n b 7 }) (7 + 34 * n) r
+    unfolding shapeForm
+    shape-by =
+        record {
+          is =
+              layer-type b _ (omega arith)
+              (then-is _ _ _ _ r (counted-at point b 5 n h e (w .is)));
+        }
+
+    pub shape-points : (t : Bool) → not r ≡ true → BodyRead (kind t) b F.Ill
+    shape-points t f = shape-ill b t (failed shape-by f)
+
+    module _ (f : not r ≡ false) (s : ShapePlaces) (p1 : s .layer ≡ numberAt 2 b 1) (p2 : s .datatype ≡ numberAt 2 b 3) (p3 : s .count ≡ n) (p4 : s .points ≡ 7) where
+      same : record { layer = numberAt 2 b 1; datatype = numberAt 2 b 3; points = pointsFrom n b 7 } ≡ shapeAt b s
+      unfolding shapeAt
+      same = rw (p1, p2, p3, p4)
+
+      within : 7 + 34 * n ≤ length b
+      within = sized-within (34 * n) (times n point) b 7 (sized-times 34 n point sized-point) h (checked w f)
+
+      inside : ShapeIn b s
+      inside = record { points-in = let x = within in omega arith }
+
+      pub shape-is : (t : Bool) → BodyRead (kind t) b (F.Body (cond t (B.Node s) (B.Polygon s)) (7 + 34 * n))
+      unfolding bodyForm
+      shape-is true = body-is shapeForm node nodeKind refl b (B.Node s) (7 + 34 * n) (checked shape-by f) (ap node same) inside within
+      shape-is false = body-is shapeForm polygon polygonKind refl b (B.Polygon s) (7 + 34 * n) (checked shape-by f) (ap polygon same) inside within

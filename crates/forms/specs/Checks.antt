@@ -1,0 +1,79 @@
+-- What the checks of a form promise. A form is held to what stands in the block: it gives exactly that, or is ill-formed. Assumes nothing.
+use mathlib.Core.Path.{_≡_}
+use mathlib.Core.Bool.{Bool, cond}
+use mathlib.Core.Option.{Option, none, some}
+use mathlib.Core.List.{List}
+use Prim.Native.Nat.{ℕ, _≤_}
+use lib.ListN.{length, drop}
+use Rattle.units.specs.declared.Unit as Coordinate
+use Rattle.parsing.specs.Parse.{Part, ill, part, IllFormed, illFormed, present, whole, _>>=_}
+use Rattle.sheet.specs.Form.{Form, counted, coordinate}
+use Rattle.sheet.specs.Element.{Property, Body, property, bodyForm, headOf, elementOf}
+use Rattle.forms.specs.declared.BodyPlaces.{BodyPlaces}
+use Rattle.forms.specs.declared.PropertiesForm.{PropertiesForm}
+use Rattle.forms.specs.declared.PropertiesForm.the-variants as P
+use Rattle.forms.specs.declared.BodyForm.{BodyForm}
+use Rattle.forms.specs.declared.BodyForm.the-variants as F
+use Rattle.forms.specs.declared.HeadForm.{HeadForm}
+use Rattle.forms.specs.declared.HeadForm.the-variants as H
+use Rattle.forms.specs.declared.ElementForm.{ElementForm}
+use Rattle.forms.specs.declared.ElementForm.the-variants as E
+use Rattle.forms.specs.Forms.{bodyAt, propertiesAt, headFormAt, elementAt, HeadIn, BodyIn, PropertiesIn, ElementIn}
+
+-- a coordinate that is not absent
+abbrev pub given : Form Coordinate.Unit
+given = coordinate >>= present illFormed
+
+-- A check at a place that answers yes or no: the form p gives a and ends at `to`, or is ill-formed.
+pub record Checked {A : Type 0} (p : Form A) (b : List ℕ) (at : ℕ) (a : A) (to : ℕ) (r : Bool) : Type 0 where
+  pub is : p (drop at b) ≡ cond r (part a (drop to b)) (ill illFormed)
+
+-- ---- the properties, to the end of the block
+
+abbrev pub propertiesFormAt : List ℕ → PropertiesForm → Option (List Property)
+propertiesFormAt b P.Ill = none
+propertiesFormAt b (P.Properties q) = some (propertiesAt b q)
+
+abbrev pub PropertiesFormIn : List ℕ → PropertiesForm → Type 0
+PropertiesFormIn b P.Ill = Unit {0}
+PropertiesFormIn b (P.Properties q) = PropertiesIn b q
+
+pub record PropertiesRead (b : List ℕ) (at : ℕ) (r : PropertiesForm) : Type 0 where
+  pub form : whole (counted property) (drop at b) ≡ propertiesFormAt b r
+  pub places : PropertiesFormIn b r
+
+-- ---- the body of kind k, after the kind byte
+
+abbrev pub bodyFormAt : List ℕ → BodyForm → Part IllFormed ℕ Body
+bodyFormAt b F.Ill = ill illFormed
+bodyFormAt b (F.Body s end) = part (bodyAt b s) (drop end b)
+
+pub record BodyEnds (b : List ℕ) (s : BodyPlaces) (end : ℕ) : Type 0 where
+  pub body-in : BodyIn b s
+  pub end-in : end ≤ length b
+
+abbrev pub BodyFormIn : List ℕ → BodyForm → Type 0
+BodyFormIn b F.Ill = Unit {0}
+BodyFormIn b (F.Body s end) = BodyEnds b s end
+
+pub record BodyRead (k : ℕ) (b : List ℕ) (r : BodyForm) : Type 0 where
+  pub form : bodyForm k (drop 1 b) ≡ bodyFormAt b r
+  pub places : BodyFormIn b r
+
+-- ---- whole blocks
+
+abbrev pub HeadFormIn : List ℕ → HeadForm → Type 0
+HeadFormIn b H.Ill = Unit {0}
+HeadFormIn b (H.Head s) = HeadIn b s
+
+pub record HeadRead (b : List ℕ) (r : HeadForm) : Type 0 where
+  pub form : headOf b ≡ headFormAt b r
+  pub places : HeadFormIn b r
+
+abbrev pub ElementFormIn : List ℕ → ElementForm → Type 0
+ElementFormIn b E.Ill = Unit {0}
+ElementFormIn b (E.Element s q) = ElementIn b s q
+
+pub record ElementRead (b : List ℕ) (r : ElementForm) : Type 0 where
+  pub form : elementOf b ≡ elementAt b r
+  pub places : ElementFormIn b r

@@ -1,0 +1,244 @@
+-- The steps before the points: an answer handed on, each way out of the code, and a path as these steps and then its points. Assumes nothing.
+use mathlib.Core.Path.{_≡_, refl, sym, ap, ap₂, _∙_, subst}
+use mathlib.Core.Bool.{Bool, true, false, cond, _&&_}
+use mathlib.Core.Option.{Option, none, some}
+use mathlib.Core.List.{List}
+use Prim.Native.Nat.{ℕ, _+_, _≤_, _<_}
+use native.Mathlib.Omega.{arith}
+use lib.Dec.{leb, eqb}
+use lib.ListN.{length}
+use lib.IntN.{ℤ}
+use lib.Ieee.{Float}
+use borrow.Author.Tests.{leb-true}
+use Rattle.refusal.specs.declared.Refusal.{Refusal}
+use Rattle.refusal.specs.declared.Refusal.the-variants as R
+use Rattle.units.specs.declared.Unit as Units
+use Rattle.units.specs.Point.{Point}
+use Rattle.big_endian.specs.Big.{numberAt}
+use Rattle.conversion.specs.declared.Entry.{Entry}
+use Rattle.conversion.specs.declared.GdsRoundingPolicy.{GdsRoundingPolicy}
+use Rattle.conversion.specs.Made.{Made, pure, need, _>>=_, _>>_}
+use Rattle.conversion.specs.Fold.{notedAll, run}
+use Rattle.conversion.specs.Convert.{convertUnit}
+use Rattle.conversion.specs.Points.{spot, writePoints, writeLength}
+use Rattle.conversion.specs.Field.{widthField, beginField, endField, noAxis}
+use Rattle.conversion.proofs.FoldLaws.{run-bind, run-then, run-pure, run-need, run-unmet, run-map, run-same}
+use Rattle.sheet.specs.Form.{absentKind}
+use Rattle.sheet.specs.Element as S
+use Rattle.stream.specs.Structure as D
+use Rattle.records.specs.Bytes.{optionOf}
+use Rattle.writing.proofs.StepLaws.{run-through}
+use Rattle.cell.specs.Limits.{within, minPathPoints, maxPoints, maxLayer, maxDataType}
+use Rattle.cell.specs.Write.{isSome, layerAndType, writePath}
+use Rattle.forms.specs.Place.{unitAt, coordinateAt}
+use Rattle.points.specs.declared.Valued.{Valued}
+use Rattle.points.specs.declared.Valued.the-variants as G
+use Rattle.points.specs.Walk.{ValueGrown, Values}
+use Rattle.points.proofs.ValueLaws.{value-stops, value-goes-on}
+use Rattle.path.specs.declared.Length.{Length}
+use Rattle.path.specs.declared.Length.the-variants as L
+use Rattle.path.specs.declared.Lengths.{Lengths}
+use Rattle.path.specs.declared.Lengths.the-variants as F
+use Rattle.path.specs.Front.{Extent, extent, writeExtent, writeFront, Answer, refuses, gives, lengthOf, extentOf, LengthFits, GivesLength, Fits, ExtentFits, GivesExtent}
+
+-- ---- an answer handed on: a step's refusal, or what is left after its value
+
+module _ {R : Type 0} (stop : Refusal → R) {A B : Type 0} (e : Entry) (m : Made A) (f : A → Made B) (k : B → Entry → R) where
+  abbrev spread : Answer A → R
+  spread (refuses x) = stop x
+  spread (gives a e′) = run stop e′ (f a) k
+
+  handed : (r : Answer A) → r ≡ run refuses e m gives → spread r ≡ run stop e (m >>= f) k
+  handed r h =
+      ap spread h ∙ run-through refuses gives spread stop (λ a e′. run stop e′ (f a) k) (λ x. refl) (λ a e′. refl) e m ∙ sym (run-bind stop e m f k)
+
+  pub stops : (r : Answer A) (x : Refusal) → r ≡ run refuses e m gives → r ≡ refuses x → stop x ≡ run stop e (m >>= f) k
+  stops r x h g = ap spread (sym g) ∙ handed r h
+
+  pub goes-on : (r : Answer A) (a : A) (e′ : Entry) → r ≡ run refuses e m gives → r ≡ gives a e′ → run stop e′ (f a) k ≡ run stop e (m >>= f) k
+  goes-on r a e′ h g = ap spread (sym g) ∙ handed r h
+
+-- ---- one length
+
+module _ (policy : GdsRoundingPolicy) (d : Float) (f : ℕ) (b : List ℕ) (at : ℕ) (e : Entry) where
+  abbrev Given : Length → Type 0
+  Given r = GivesLength (isSome (coordinateAt b at)) e (writeLength policy d f (coordinateAt b at)) r
+
+  abbrev Of : Option Units.Unit → Length → Type 0
+  Of x r = GivesLength (isSome x) e (writeLength policy d f x) r
+
+  absent-is : (t : Bool) → eqb (numberAt 1 b at) absentKind ≡ t → coordinateAt b at ≡ cond t none (some (unitAt b at))
+  unfolding coordinateAt
+  absent-is t h = ap (λ (t : Bool). cond t none (some (unitAt b at))) h
+
+  pub length-absent : (t : Bool) (z : ℤ) → t ≡ eqb (numberAt 1 b at) absentKind → t ≡ true → Given (L.At false z e)
+  unfolding writeLength
+  length-absent t z h g = subst (λ (x : Option Units.Unit). Of x (L.At false z e)) (sym (absent-is true (sym h ∙ g))) missing
+    where
+      go : (n : ℕ) → n ≤ n + 1
+      go n = omega arith
+
+      missing : Of none (L.At false z e)
+      missing = record { is = sym (run-pure refuses e none gives); fits = (refl, go (e .count)) }
+
+  module _ (t : Bool) (h : t ≡ eqb (numberAt 1 b at) absentKind) (g : t ≡ false) (s : Valued) (v : Values e (convertUnit policy d (spot f noAxis 0) (unitAt b at)) s) where
+    there : (r : Length) → Of (some (unitAt b at)) r → Given r
+    there r x = subst (λ (x : Option Units.Unit). Of x r) (sym (absent-is false (sym h ∙ g))) x
+
+    pub length-refused : (x : Refusal) → s ≡ G.Refused x → Given (L.Refused x)
+    unfolding writeLength
+    length-refused x i = there (L.Refused x) (record { is = value-stops refuses e (convertUnit policy d (spot f noAxis 0) (unitAt b at)) (λ q. pure (some q)) gives s v x i; fits = tt })
+
+    pub length-there : (q z : ℤ) (e′ : Entry) → s ≡ G.At q e′ → z ≡ q → Given (L.At true z e′)
+    unfolding writeLength
+    length-there q z e′ i j =
+        there (L.At true z e′)
+        (record {
+          is = ap (λ (y : ℤ). gives (some y) e′) j ∙ sym (run-pure refuses e′ (some q) gives)
+              ∙ value-goes-on refuses e (convertUnit policy d (spot f noAxis 0) (unitAt b at)) (λ q. pure (some q)) gives s v q e′ i;
+          fits = (refl, subst (ValueGrown (e .count)) i (v .grown));
+        })
+
+-- ---- the three lengths: each way out
+
+-- the lengths in other words: what the machine reads back of them
+pub same-extent : (wide begun ended : Bool) {z1 q1 z2 q2 z3 q3 : ℤ} → z1 ≡ q1 → z2 ≡ q2 → z3 ≡ q3 → extent wide z1 begun z2 ended z3 ≡ extent wide q1 begun q2 ended q3
+same-extent wide begun ended {q1 = q1} {z2 = z2} {z3 = z3} i1 i2 i3 =
+    ap (λ (z : ℤ). extent wide z begun z2 ended z3) i1 ∙ ap₂ (λ (y z : ℤ). extent wide q1 begun y ended z) i2 i3
+
+module _ (policy : GdsRoundingPolicy) (d : Float) (p : S.Path) (e : Entry) (r1 : Length)
+    (h1 : GivesLength (isSome (p .width)) e (writeLength policy d widthField (p .width)) r1) where
+  abbrev third : Option ℤ → Option ℤ → Option ℤ → Made Extent
+  third w b n = pure (record { width = w; begin = b; end = n })
+
+  abbrev second : Option ℤ → Option ℤ → Made Extent
+  second w b = writeLength policy d endField (p .end) >>= λ n. third w b n
+
+  abbrev first : Option ℤ → Made Extent
+  first w = writeLength policy d beginField (p .begin) >>= λ b. second w b
+
+  pub width-stops : (x : Refusal) → r1 ≡ L.Refused x → GivesExtent p e (writeExtent policy d p) (F.Refused x)
+  unfolding writeExtent
+  width-stops x g = record { is = stops refuses e (writeLength policy d widthField (p .width)) first gives (lengthOf r1) x (h1 .is) (ap lengthOf g); fits = tt }
+
+  module _ (w : Bool) (q1 : ℤ) (e1 : Entry) (g1 : r1 ≡ L.At w q1 e1) (r2 : Length) (h2 : GivesLength (isSome (p .begin)) e1 (writeLength policy d beginField (p .begin)) r2) where
+    after-width : run refuses e1 (first (optionOf w q1)) gives ≡ run refuses e (writeExtent policy d p) gives
+    unfolding writeExtent
+    after-width = goes-on refuses e (writeLength policy d widthField (p .width)) first gives (lengthOf r1) (optionOf w q1) e1 (h1 .is) (ap lengthOf g1)
+
+    pub begin-stops : (x : Refusal) → r2 ≡ L.Refused x → GivesExtent p e (writeExtent policy d p) (F.Refused x)
+    begin-stops x g =
+        record { is = stops refuses e1 (writeLength policy d beginField (p .begin)) (second (optionOf w q1)) gives (lengthOf r2) x (h2 .is) (ap lengthOf g) ∙ after-width; fits = tt }
+
+    module _ (b : Bool) (q2 : ℤ) (e2 : Entry) (g2 : r2 ≡ L.At b q2 e2) (r3 : Length) (h3 : GivesLength (isSome (p .end)) e2 (writeLength policy d endField (p .end)) r3) where
+      after-begin : run refuses e2 (second (optionOf w q1) (optionOf b q2)) gives ≡ run refuses e (writeExtent policy d p) gives
+      after-begin =
+          goes-on refuses e1 (writeLength policy d beginField (p .begin)) (second (optionOf w q1)) gives (lengthOf r2) (optionOf b q2) e2 (h2 .is) (ap lengthOf g2) ∙ after-width
+
+      pub end-stops : (x : Refusal) → r3 ≡ L.Refused x → GivesExtent p e (writeExtent policy d p) (F.Refused x)
+      end-stops x g =
+          record { is = stops refuses e2 (writeLength policy d endField (p .end)) (third (optionOf w q1) (optionOf b q2)) gives (lengthOf r3) x (h3 .is) (ap lengthOf g) ∙ after-begin; fits = tt }
+
+      -- z1, z2 and z3 are what the machine reads back of the values
+      pub all-there : (n : Bool) (q3 : ℤ) (e3 : Entry) → r3 ≡ L.At n q3 e3 → (z1 z2 z3 : ℤ) → z1 ≡ q1 → z2 ≡ q2 → z3 ≡ q3
+          → GivesExtent p e (writeExtent policy d p) (F.At w z1 b z2 n z3 e3)
+      all-there n q3 e3 g3 z1 z2 z3 i1 i2 i3 =
+          let f1 = subst (LengthFits (isSome (p .width)) (e .count)) g1 (h1 .fits) in
+          let f2 = subst (LengthFits (isSome (p .begin)) (e1 .count)) g2 (h2 .fits) in
+          let f3 = subst (LengthFits (isSome (p .end)) (e2 .count)) g3 (h3 .fits) in
+          record {
+            is = ap (λ (x : Extent). gives x e3) (same-extent w b n i1 i2 i3)
+                ∙ sym (run-pure refuses e3 (extent w q1 b q2 n q3) gives)
+                ∙ goes-on refuses e2 (writeLength policy d endField (p .end)) (third (optionOf w q1) (optionOf b q2)) gives (lengthOf r3) (optionOf n q3) e3 (h3 .is) (ap lengthOf g3)
+                ∙ after-begin;
+            fits = record { wide-is = f1 .0; begun-is = f2 .0; ended-is = f3 .0; grown = go (e .count) (e1 .count) (e2 .count) (e3 .count) (f1 .1) (f2 .1) (f3 .1) };
+          }
+        where
+          go : (k k1 k2 k3 : ℕ) → k1 ≤ k + 1 → k2 ≤ k1 + 1 → k3 ≤ k2 + 1 → k3 ≤ k + 3
+          go k k1 k2 k3 a b c = omega arith
+
+-- ---- the checks: each way out
+
+module _ (policy : GdsRoundingPolicy) (d : Float) (p : S.Path) {Z : Type 0} (stop : Refusal → Z) (e : Entry) (k : Extent → Entry → Z) where
+  -- layer and type, before what is left
+  layer-type : {A : Type 0} (l t : ℕ) (m : Made A) (k : A → Entry → Z) (s u : Bool) → leb l maxLayer ≡ s → leb t maxDataType ≡ u
+      → run stop e (layerAndType l t >> m) k ≡ cond (s && u) (run stop e m k) (stop R.LayerOrType)
+  unfolding layerAndType need run notedAll _>>_ _>>=_
+  layer-type l t m k s u a b =
+      run-then stop e (layerAndType l t) m k
+      ∙ ap₂ (λ (s u : Bool). run stop e (need s R.LayerOrType >> need u R.LayerOrType) (λ _ e′. run stop e′ m k)) a b
+      ∙ go s u
+    where
+      go : (s u : Bool) → run stop e (need s R.LayerOrType >> need u R.LayerOrType) (λ _ e′. run stop e′ m k) ≡ cond (s && u) (run stop e m k) (stop R.LayerOrType)
+      go true true = refl
+      go true false = refl
+      go false u = refl
+
+  pub wrong-count : within minPathPoints (length (p .points)) maxPoints ≡ false → run stop e (writeFront policy d p) k ≡ stop R.PointCount
+  unfolding writeFront
+  wrong-count h = run-unmet stop e (within minPathPoints (length (p .points)) maxPoints) R.PointCount _ k h
+
+  -- whether layer and type are allowed
+  pub right-count : (s u : Bool) → within minPathPoints (length (p .points)) maxPoints ≡ true → leb (p .layer) maxLayer ≡ s → leb (p .datatype) maxDataType ≡ u
+      → run stop e (writeFront policy d p) k ≡ cond (s && u) (run stop e (writeExtent policy d p) k) (stop R.LayerOrType)
+  unfolding writeFront
+  right-count s u h a b =
+      run-need stop e (within minPathPoints (length (p .points)) maxPoints) R.PointCount _ k h
+      ∙ layer-type (p .layer) (p .datatype) (writeExtent policy d p) k s u a b
+
+-- ---- a path: these steps, then its points
+
+module _ (policy : GdsRoundingPolicy) (d : Float) (p : S.Path) where
+  -- what the records say of it
+  abbrev pub drawn : Extent → List (Point ℤ) → D.Path
+  drawn l ps = record { layer = p .layer; datatype = p .datatype; pathType = p .pathType; width = l .width; begin = l .begin; end = l .end; points = ps }
+
+  module _ {R : Type 0} (stop : Refusal → R) (e : Entry) (k : D.Path → Entry → R) where
+    abbrev rest : Extent → Made D.Path
+    rest l = writePoints policy d 0 (p .points) >>= λ ps. pure (drawn l ps)
+
+    pub path-is : run stop e (writePath policy d p) k ≡ run stop e (writeFront policy d p >>= rest) k
+    unfolding writePath writeFront writeExtent
+    path-is =
+        run-then stop e _ _ k
+        ∙ run-same stop e _ _ _ (λ u e1. run-then stop e1 _ _ k
+        ∙ run-same stop e1 _ _ _ (λ v e2. run-bind stop e2 _ _ k
+        ∙ run-same stop e2 _ _ _ (λ w e3. run-bind stop e3 _ _ k
+        ∙ run-same stop e3 _ _ _ (λ b e4. run-bind stop e4 _ _ k
+        ∙ sym (run-map stop e4 _ (λ n. record { width = w; begin = b; end = n }) (λ l e5. run stop e5 (rest l) k)))
+        ∙ sym (run-bind stop e3 _ _ (λ l e5. run stop e5 (rest l) k)))
+        ∙ sym (run-bind stop e2 _ _ (λ l e5. run stop e5 (rest l) k)))
+        ∙ sym (run-then stop e1 _ _ (λ l e5. run stop e5 (rest l) k)))
+        ∙ sym (run-then stop e _ _ (λ l e5. run stop e5 (rest l) k))
+        ∙ sym (run-bind stop e (writeFront policy d p) rest k)
+
+    module _ (r : Lengths) (h : GivesExtent p e (writeFront policy d p) r) where
+      pub front-stops : (x : Refusal) → r ≡ F.Refused x → stop x ≡ run stop e (writePath policy d p) k
+      front-stops x g = stops stop e (writeFront policy d p) rest k (extentOf r) x (h .is) (ap extentOf g) ∙ sym path-is
+
+      pub front-goes-on : (w : Bool) (q1 : ℤ) (b : Bool) (q2 : ℤ) (n : Bool) (q3 : ℤ) (e′ : Entry) → r ≡ F.At w q1 b q2 n q3 e′
+          → run stop e′ (writePoints policy d 0 (p .points)) (λ ps e″. k (drawn (extent w q1 b q2 n q3) ps) e″) ≡ run stop e (writePath policy d p) k
+      front-goes-on w q1 b q2 n q3 e′ g =
+          sym (run-map stop e′ (writePoints policy d 0 (p .points)) (drawn (extent w q1 b q2 n q3)) k)
+          ∙ goes-on stop e (writeFront policy d p) rest k (extentOf r) (extent w q1 b q2 n q3) e′ (h .is) (ap extentOf g)
+          ∙ sym path-is
+
+  -- where the front gives lengths, the points are as many as they may be
+  pub front-counted : (e : Entry) (r : Lengths) → GivesExtent p e (writeFront policy d p) r → (w : Bool) (q1 : ℤ) (b : Bool) (q2 : ℤ) (n : Bool) (q3 : ℤ) (e′ : Entry) → r ≡ F.At w q1 b q2 n q3 e′
+      → (2 ≤ length (p .points)) × (length (p .points) ≤ 8191)
+  front-counted e r h w q1 b q2 n q3 e′ g = go (leb 2 (length (p .points))) (leb (length (p .points)) 8191) refl refl
+    where
+      Goal : Type 0
+      Goal = (2 ≤ length (p .points)) × (length (p .points) ≤ 8191)
+
+      no : within minPathPoints (length (p .points)) maxPoints ≡ false → Goal
+      no t =
+          let x : extentOf r ≡ refuses R.PointCount = h .is ∙ wrong-count policy d p refuses e gives t in
+          let y : extentOf r ≡ gives (extent w q1 b q2 n q3) e′ = ap extentOf g in
+          let z : _≡_ {A = ℕ} 0 1 = cc in
+          absurd (omega arith)
+
+      go : (s t : Bool) → leb 2 (length (p .points)) ≡ s → leb (length (p .points)) 8191 ≡ t → Goal
+      go true true x y = (leb-true 2 (length (p .points)) x, leb-true (length (p .points)) 8191 y)
+      go true false x y = no (ap₂ _&&_ x y)
+      go false t x y = no (ap₂ _&&_ x y)

@@ -1,0 +1,188 @@
+-- The bytes of a path: those before the points, then the points; and how many there are. Assumes nothing.
+use mathlib.Core.Path.{_≡_, refl, sym, ap, ap₂, _∙_, subst}
+use mathlib.Core.Bool.{Bool, true, false, not, cond}
+use mathlib.Core.Option.{Option, none, some}
+use mathlib.Core.List.{List, [], _∷_, _++_, append-nil, append-assoc}
+use Prim.Native.Nat.{ℕ, _+_, _*_, _≤_}
+use native.Mathlib.Omega.{arith}
+use lib.Dec.{eqb}
+use lib.ListN.{length, length-append}
+use lib.IntN.{ℤ}
+use Rattle.units.specs.Point.{Point}
+use Rattle.sheet.specs.Element as S
+use Rattle.stream.specs.Record.{Rec, PATH, LAYER, DATATYPE, PATHTYPE, WIDTH, BGNEXTN, ENDEXTN, XY, fourByte, recordBytes, streamBytes}
+use Rattle.stream.specs.Records.{emptyRecord, wordRecord, longRecord, xyRecord, pointsBytes, opt, pathRecords}
+use Rattle.big_endian.proofs.BufferLaws.{nothing-at}
+use Rattle.records.specs.Bytes.{headBytes, Placed, optBytes, optionOf}
+use Rattle.records.proofs.RecordLaws.{placed, then-placed, length-record, then-rest, then-opt}
+use Rattle.cell.specs.Write.{isSome}
+use Rattle.forms.specs.Forms.{pathTypeOf}
+use Rattle.points.proofs.WalkLaws.{length-bytes}
+use Rattle.path.specs.Front.{Extent, extent}
+use Rattle.path.proofs.FrontLaws.{same-extent}
+use Rattle.path.specs.Length.{pathBytes, extentRecords, headRecords, pathHead, extentLength, headLength, pathLength}
+
+-- ---- a flag and a value
+
+pub flag-is : {A : Type 0} (t : Bool) (v : A) → isSome (optionOf t v) ≡ t
+flag-is true v = refl
+flag-is false v = refl
+
+pub if-small : (t : Bool) (n : ℕ) → cond t n 0 ≤ n
+if-small true n = omega arith
+if-small false n = omega arith
+
+-- the sheet's byte is the path type where it is there
+pub type-back : (k : ℕ) → optionOf (isSome (pathTypeOf k)) k ≡ pathTypeOf k
+unfolding pathTypeOf
+type-back k = go (eqb k 255)
+  where
+    go : (t : Bool) → optionOf (isSome (cond t none (some k))) k ≡ cond t none (some k)
+    go true = refl
+    go false = refl
+
+pub type-there : (k : ℕ) → not (eqb k 255) ≡ isSome (pathTypeOf k)
+unfolding pathTypeOf
+type-there k = go (eqb k 255)
+  where
+    go : (t : Bool) → not t ≡ isSome (cond t none (some k))
+    go true = refl
+    go false = refl
+
+-- ---- rows of records: what comes after does not change those before
+
+module _ (t : List ℕ) where
+  cons-split : (r : Rec) (rs ss : List Rec) → streamBytes rs ≡ streamBytes ss ++ t → streamBytes (r ∷ rs) ≡ streamBytes (r ∷ ss) ++ t
+  unfolding streamBytes
+  cons-split r rs ss h = ap (λ (l : List ℕ). recordBytes r ++ l) h ∙ sym (append-assoc (recordBytes r) (streamBytes ss) t)
+
+  opt-split : {A : Type 0} (f : A → Rec) (x : Option A) (rs ss : List Rec) → streamBytes rs ≡ streamBytes ss ++ t → streamBytes (opt f x rs) ≡ streamBytes (opt f x ss) ++ t
+  unfolding opt
+  opt-split f none rs ss h = h
+  opt-split f (some a) rs ss h = cons-split (f a) rs ss h
+
+  nil-split : (rs : List Rec) → streamBytes rs ≡ t → streamBytes rs ≡ streamBytes [] ++ t
+  unfolding streamBytes
+  nil-split rs h = h
+
+  head-split : (layer datatype : ℕ) (k : Option ℕ) (l : Extent) (rs : List Rec) → streamBytes rs ≡ t
+      → streamBytes (headRecords layer datatype k l rs) ≡ streamBytes (headRecords layer datatype k l []) ++ t
+  head-split layer datatype k l rs h =
+      cons-split (emptyRecord PATH) _ _ (cons-split (wordRecord LAYER layer) _ _ (cons-split (wordRecord DATATYPE datatype) _ _
+      (opt-split (wordRecord PATHTYPE) k _ _ (opt-split (longRecord WIDTH) (l .width) _ _ (opt-split (longRecord BGNEXTN) (l .begin) _ _ (opt-split (longRecord ENDEXTN) (l .end) _ _ (nil-split rs h)))))))
+
+-- the XY: its head, then the points
+xy-is : (ps : List (Point ℤ)) (n : ℕ) → length ps ≡ n → streamBytes (xyRecord ps ∷ []) ≡ headBytes (4 + 8 * n) XY fourByte ++ pointsBytes ps
+unfolding streamBytes recordBytes
+xy-is ps n h =
+    append-nil (recordBytes (xyRecord ps))
+    ∙ ap (λ (k : ℕ). headBytes (4 + k) XY fourByte ++ pointsBytes ps) (length-bytes ps ∙ ap (λ (k : ℕ). 8 * k) h)
+
+-- the bytes before the points, then the points
+pub path-split : (layer datatype : ℕ) (k : Option ℕ) (l : Extent) (ps : List (Point ℤ)) (n : ℕ) → length ps ≡ n
+    → pathBytes (record { layer = layer; datatype = datatype; pathType = k; width = l .width; begin = l .begin; end = l .end; points = ps }) ≡ pathHead layer datatype k l n ++ pointsBytes ps
+unfolding pathBytes pathRecords pathHead
+path-split layer datatype k l ps n h =
+    head-split (headBytes (4 + 8 * n) XY fourByte ++ pointsBytes ps) layer datatype k l (xyRecord ps ∷ []) (xy-is ps n h)
+    ∙ sym (append-assoc (streamBytes (headRecords layer datatype k l [])) (headBytes (4 + 8 * n) XY fourByte) (pointsBytes ps))
+
+-- ---- how many bytes
+
+length-opt : {A : Type 0} (f : A → Rec) (n : ℕ) → ((a : A) → length (recordBytes (f a)) ≡ n) → (x : Option A) (rs : List Rec)
+    → length (streamBytes (opt f x rs)) ≡ cond (isSome x) n 0 + length (streamBytes rs)
+unfolding opt streamBytes
+length-opt f n h none rs = go (length (streamBytes rs))
+  where
+    go : (n : ℕ) → n ≡ 0 + n
+    go n = omega arith
+length-opt f n h (some a) rs = length-append (recordBytes (f a)) (streamBytes rs) ∙ ap (λ (k : ℕ). k + length (streamBytes rs)) (h a)
+
+length-cons : (r : Rec) (rs : List Rec) → length (streamBytes (r ∷ rs)) ≡ 4 + length (r .content) + length (streamBytes rs)
+unfolding streamBytes
+length-cons r rs = length-append (recordBytes r) (streamBytes rs) ∙ ap (λ (k : ℕ). k + length (streamBytes rs)) (length-record r)
+
+length-none : length (streamBytes []) ≡ 0
+unfolding streamBytes
+length-none = refl
+
+pub length-head : (layer datatype : ℕ) (k : Option ℕ) (l : Extent) (n : ℕ)
+    → length (pathHead layer datatype k l n) ≡ headLength (isSome k) (isSome (l .width)) (isSome (l .begin)) (isSome (l .end))
+unfolding pathHead
+length-head layer datatype k l n =
+    let w4 = opt (longRecord ENDEXTN) (l .end) [] in
+    let w3 = opt (longRecord BGNEXTN) (l .begin) w4 in
+    let w2 = opt (longRecord WIDTH) (l .width) w3 in
+    let w1 = opt (wordRecord PATHTYPE) k w2 in
+    length-append (streamBytes (headRecords layer datatype k l [])) (headBytes (4 + 8 * n) XY fourByte)
+    ∙ go _ _ _ _ _ _ _ _ _ _ _ _ (length-cons (emptyRecord PATH) (wordRecord LAYER layer ∷ wordRecord DATATYPE datatype ∷ w1))
+    (length-cons (wordRecord LAYER layer) (wordRecord DATATYPE datatype ∷ w1)) (length-cons (wordRecord DATATYPE datatype) w1)
+    (length-opt (wordRecord PATHTYPE) 6 (λ a. length-record (wordRecord PATHTYPE a)) k w2)
+    (length-opt (longRecord WIDTH) 8 (λ a. length-record (longRecord WIDTH a)) (l .width) w3)
+    (length-opt (longRecord BGNEXTN) 8 (λ a. length-record (longRecord BGNEXTN a)) (l .begin) w4)
+    (length-opt (longRecord ENDEXTN) 8 (λ a. length-record (longRecord ENDEXTN a)) (l .end) [])
+    length-none
+  where
+    go : (s1 s2 s3 s4 s5 s6 s7 s8 a b c d : ℕ) → s1 ≡ 4 + 0 + s2 → s2 ≡ 4 + 2 + s3 → s3 ≡ 4 + 2 + s4 → s4 ≡ a + s5 → s5 ≡ b + s6 → s6 ≡ c + s7 → s7 ≡ d + s8 → s8 ≡ 0
+        → s1 + 4 ≡ 20 + (a + (b + (c + d)))
+    go s1 s2 s3 s4 s5 s6 s7 s8 a b c d h1 h2 h3 h4 h5 h6 h7 h8 = omega arith
+
+pub length-path : (layer datatype : ℕ) (k : Option ℕ) (l : Extent) (ps : List (Point ℤ)) (n : ℕ) → length ps ≡ n
+    → length (pathBytes (record { layer = layer; datatype = datatype; pathType = k; width = l .width; begin = l .begin; end = l .end; points = ps }))
+    ≡ headLength (isSome k) (isSome (l .width)) (isSome (l .begin)) (isSome (l .end)) + 8 * n
+length-path layer datatype k l ps n h =
+    ap length (path-split layer datatype k l ps n h) ∙ length-append (pathHead layer datatype k l n) (pointsBytes ps)
+    ∙ ap₂ _+_ (length-head layer datatype k l n) (length-bytes ps ∙ ap (λ (k : ℕ). 8 * k) h)
+
+-- ---- written one after the other
+
+resized : {bs d cur : List ℕ} {n m at to : ℕ} → n ≡ m → Placed bs n d cur at to → Placed bs m d cur at to
+resized {bs} {d} {cur} {at = at} {to = to} e w = subst (λ (k : ℕ). Placed bs k d cur at to) e w
+
+-- no record
+none-at : (d : List ℕ) (at : ℕ) → at ≤ length d → Placed (streamBytes []) 0 d d at at
+unfolding streamBytes
+none-at d at h = placed (nothing-at d at h) refl
+
+pub extent-at : (wide begun ended : Bool) {z1 q1 z2 q2 z3 q3 : ℤ} {d d1 d2 d3 : List ℕ} {at a1 a2 a3 : ℕ} → z1 ≡ q1 → z2 ≡ q2 → z3 ≡ q3
+    → Placed (optBytes (longRecord WIDTH) (optionOf wide z1)) (cond wide 8 0) d d1 at a1
+    → Placed (optBytes (longRecord BGNEXTN) (optionOf begun z2)) (cond begun 8 0) d1 d2 a1 a2
+    → Placed (optBytes (longRecord ENDEXTN) (optionOf ended z3)) (cond ended 8 0) d2 d3 a2 a3
+    → Placed (streamBytes (extentRecords (extent wide q1 begun q2 ended q3) [])) (extentLength wide begun ended) d d3 at a3
+extent-at wide begun ended {z1} {q1} {z2} {q2} {z3} {q3} {d} {d1} {d2} {d3} {at} {a1} {a2} {a3} i1 i2 i3 u v w =
+    let c = w .wrote .count in
+    let f = w .wrote .fits in
+    let s = w .long in
+    let k : a3 ≤ length d3 = omega arith in
+    subst (λ (l : Extent). Placed (streamBytes (extentRecords l [])) (extentLength wide begun ended) d d3 at a3) (same-extent wide begun ended i1 i2 i3)
+    (resized (go (cond wide 8 0) (cond begun 8 0) (cond ended 8 0))
+    (then-opt (longRecord WIDTH) (optionOf wide z1) _ u (then-opt (longRecord BGNEXTN) (optionOf begun z2) _ v
+    (then-opt (longRecord ENDEXTN) (optionOf ended z3) [] w (none-at d3 a3 k)))))
+  where
+    go : (a b c : ℕ) → a + (b + (c + 0)) ≡ a + (b + c)
+    go a b c = omega arith
+
+pub head-at : (layer datatype : ℕ) (typed : Bool) (k : ℕ) (l l′ : Extent) (n m : ℕ) {d d1 d2 d3 d4 d5 d6 : List ℕ} {at a1 a2 a3 a4 a5 a6 : ℕ} → l ≡ l′
+    → Placed (recordBytes (emptyRecord PATH)) 4 d d1 at a1 → Placed (recordBytes (wordRecord LAYER layer)) 6 d1 d2 a1 a2
+    → Placed (recordBytes (wordRecord DATATYPE datatype)) 6 d2 d3 a2 a3 → Placed (optBytes (wordRecord PATHTYPE) (optionOf typed k)) (cond typed 6 0) d3 d4 a3 a4
+    → Placed (streamBytes (extentRecords l [])) m d4 d5 a4 a5 → Placed (headBytes (4 + 8 * n) XY fourByte) 4 d5 d6 a5 a6
+    → Placed (pathHead layer datatype (optionOf typed k) l′ n) (20 + (cond typed 6 0 + m)) d d6 at a6
+unfolding pathHead
+head-at layer datatype typed k l l′ n m {d4 = d4} {d5 = d5} {a4 = a4} {a5 = a5} e p q r s t u =
+    resized (go (cond typed 6 0) m)
+    (then-placed (then-rest (emptyRecord PATH) _ p (then-rest (wordRecord LAYER layer) _ q (then-rest (wordRecord DATATYPE datatype) _ r
+    (then-opt (wordRecord PATHTYPE) (optionOf typed k) _ s (subst (λ (l : Extent). Placed (streamBytes (extentRecords l [])) m d4 d5 a4 a5) e t))))) u)
+  where
+    go : (a b : ℕ) → 4 + (6 + (6 + (a + b))) + 4 ≡ 20 + (a + b)
+    go a b = omega arith
+
+-- ---- the room that the sheet asks for is the room that the code counts on
+
+pub path-room : (p : S.Path) (typed wide begun ended : Bool) (start m : ℕ) → typed ≡ isSome (p .pathType) → wide ≡ isSome (p .width) → begun ≡ isSome (p .begin) → ended ≡ isSome (p .end)
+    → start + pathLength p ≤ m → start + headLength typed wide begun ended + 8 * length (p .points) ≤ m
+unfolding pathLength
+path-room p typed wide begun ended start m t w b n h =
+    let e = ap₂ (λ (x y : Bool). headLength x y begun ended) t w ∙ ap₂ (λ (x y : Bool). headLength (isSome (p .pathType)) (isSome (p .width)) x y) b n in
+    go start (headLength typed wide begun ended) (headLength (isSome (p .pathType)) (isSome (p .width)) (isSome (p .begin)) (isSome (p .end))) (8 * length (p .points)) e h
+  where
+    go : (s a b k : ℕ) → a ≡ b → s + (b + k) ≤ m → s + a + k ≤ m
+    go s a b k e h = omega arith

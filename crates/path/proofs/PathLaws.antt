@@ -1,0 +1,182 @@
+-- Measuring and writing a path: each way out of the code, and the length of what the definition gives. Assumes nothing.
+use mathlib.Core.Path.{_≡_, refl, sym, ap, ap₂, _∙_, subst}
+use mathlib.Core.Bool.{Bool}
+use mathlib.Core.Option.{Option, none, some}
+use mathlib.Core.List.{List, [], _∷_, _++_}
+use Prim.Native.Nat.{ℕ, _+_, _*_, _≤_}
+use native.Mathlib.Omega.{arith}
+use lib.ListN.{length, length-append}
+use lib.IntN.{ℤ}
+use lib.Ieee.{Float}
+use Rattle.refusal.specs.declared.Refusal.{Refusal}
+use Rattle.units.specs.declared.Unit as Units
+use Rattle.units.specs.Point.{Point}
+use Rattle.big_endian.specs.Buffer.{splice}
+use Rattle.big_endian.proofs.BufferLaws.{at-turn}
+use Rattle.conversion.specs.declared.Entry.{Entry}
+use Rattle.conversion.specs.declared.GdsRoundingPolicy.{GdsRoundingPolicy}
+use Rattle.conversion.specs.declared.Deviation.{Deviation}
+use Rattle.conversion.specs.Made.{Made, made}
+use Rattle.conversion.specs.Fold.{blankEntry, run}
+use Rattle.conversion.specs.Points.{writePoints, writeLength}
+use Rattle.conversion.specs.Field.{widthField, beginField, endField}
+use Rattle.conversion.proofs.FoldLaws.{run-bind, run-then, run-pure, run-map, run-same}
+use Rattle.sheet.specs.Element as S
+use Rattle.stream.specs.Structure as D
+use Rattle.stream.specs.Records.{pointsBytes}
+use Rattle.records.specs.Bytes.{Placed, optionOf}
+use Rattle.writing.specs.declared.Measured.{Measured}
+use Rattle.writing.specs.declared.Measured.the-variants as M
+use Rattle.writing.specs.declared.Written.{Written}
+use Rattle.writing.specs.declared.Written.the-variants as O
+use Rattle.writing.specs.Steps.{sizing, Measures, Outcome, stopped, written, putting, Owes, Writes}
+use Rattle.writing.proofs.StepLaws.{run-through}
+use Rattle.cell.specs.Write.{isSome, writePath}
+use Rattle.points.specs.declared.Walked.{Walked}
+use Rattle.points.specs.declared.Walked.the-variants as W
+use Rattle.points.specs.Walk.{through, walked}
+use Rattle.points.proofs.WalkLaws.{run-counted}
+use Rattle.path.specs.declared.Lengths.{Lengths}
+use Rattle.path.specs.declared.Lengths.the-variants as F
+use Rattle.path.specs.Front.{Extent, extent, writeExtent, writeFront, GivesExtent}
+use Rattle.path.specs.Length.{pathBytes, pathHead, headLength, pathLength}
+use Rattle.path.proofs.FrontLaws.{same-extent, drawn, path-is, front-stops, front-goes-on}
+use Rattle.path.proofs.LengthLaws.{flag-is, path-split, length-path}
+
+module _ (policy : GdsRoundingPolicy) (d : Float) (p : S.Path) (e : Entry) (r : Lengths) (h : GivesExtent p e (writeFront policy d p) r) where
+  -- ---- refused before the points
+
+  pub measure-refused : (x : Refusal) → r ≡ F.Refused x → Measures pathBytes e (writePath policy d p) (M.Refused x)
+  measure-refused x g = front-stops policy d p M.Refused e (sizing pathBytes) r h x g
+
+  pub write-refused : (at : ℕ) (before after : List ℕ) (x : Refusal) → r ≡ F.Refused x → Writes pathBytes e (writePath policy d p) at before after (O.Refused x)
+  write-refused at before after x g = subst (λ (o : Outcome). Owes o after (O.Refused x)) (front-stops policy d p stopped e (putting pathBytes at before) r h x g) refl
+
+  -- ---- after the front
+  module _ (w : Bool) (q1 : ℤ) (b : Bool) (q2 : ℤ) (n : Bool) (q3 : ℤ) (e′ : Entry) (g : r ≡ F.At w q1 b q2 n q3 e′) where
+    abbrev l : Extent
+    l = extent w q1 b q2 n q3
+
+    size : (ps : List (Point ℤ)) → length ps ≡ length (p .points) → length (pathBytes (drawn policy d p l ps)) ≡ headLength (isSome (p .pathType)) w b n + 8 * length (p .points)
+    size ps i =
+        length-path (p .layer) (p .datatype) (p .pathType) l ps (length (p .points)) i
+        ∙ ap (λ (t : Bool). headLength (isSome (p .pathType)) t (isSome (optionOf b q2)) (isSome (optionOf n q3)) + 8 * length (p .points)) (flag-is w q1)
+        ∙ ap₂ (λ (t u : Bool). headLength (isSome (p .pathType)) w t u + 8 * length (p .points)) (flag-is b q2) (flag-is n q3)
+
+    module _ (k : ℕ) (i : k ≡ headLength (isSome (p .pathType)) w b n + 8 * length (p .points)) (s : Walked) (v : s ≡ run W.Refused e′ (writePoints policy d 0 (p .points)) walked) where
+      abbrev measured : Walked → Measured
+      measured (W.Refused x) = M.Refused x
+      measured (W.Through x0 y0 x1 y1 e″) = M.Through k e″
+
+      each : (ps : List (Point ℤ)) (e″ : Entry) → measured (walked ps e″) ≡ M.Through k e″
+      unfolding walked through
+      each [] e″ = refl
+      each (q ∷ ps) e″ = refl
+
+      answer : measured s ≡ run M.Refused e (writePath policy d p) (sizing pathBytes)
+      unfolding sizing
+      answer =
+          ap measured v
+          ∙ run-through W.Refused walked measured M.Refused (λ ps e″. M.Through k e″) (λ x. refl) each e′ (writePoints policy d 0 (p .points))
+          ∙ run-counted M.Refused policy d 0 (p .points) e′ (λ ps e″. M.Through k e″) (λ ps e″. sizing pathBytes (drawn policy d p l ps) e″) (λ ps e″ j. ap (λ (m : ℕ). M.Through m e″) (i ∙ sym (size ps j)))
+          ∙ front-goes-on policy d p M.Refused e (sizing pathBytes) r h w q1 b q2 n q3 e′ g
+
+      pub points-refused : (x : Refusal) → s ≡ W.Refused x → Measures pathBytes e (writePath policy d p) (M.Refused x)
+      points-refused x j = ap measured (sym j) ∙ answer
+
+      pub path-measured : (x0 y0 x1 y1 : ℤ) (e″ : Entry) → s ≡ W.Through x0 y0 x1 y1 e″ → Measures pathBytes e (writePath policy d p) (M.Through k e″)
+      path-measured x0 y0 x1 y1 e″ j = ap measured (sym j) ∙ answer
+
+    -- written: the head, then the points, where z1, z2 and z3 are what the machine reads back of the lengths
+    module _ (k : Option ℕ) (i : k ≡ p .pathType) (m : ℕ) (j : m ≡ length (p .points)) (z1 z2 z3 : ℤ) (i1 : z1 ≡ q1) (i2 : z2 ≡ q2) (i3 : z3 ≡ q3) (size : ℕ) (at to : ℕ) (before cur : List ℕ)
+        (u : Placed (pathHead (p .layer) (p .datatype) k (extent w z1 b z2 n z3) m) size before cur at to) where
+      head-is : pathHead (p .layer) (p .datatype) k (extent w z1 b z2 n z3) m ≡ pathHead (p .layer) (p .datatype) (p .pathType) l m
+      head-is = ap₂ (λ (o : Option ℕ) (x : Extent). pathHead (p .layer) (p .datatype) o x m) i (same-extent w b n i1 i2 i3)
+
+      joined : (ps : List (Point ℤ)) (e″ : Entry) → length ps ≡ length (p .points) → putting pointsBytes to cur ps e″ ≡ putting pathBytes at before (drawn policy d p l ps) e″
+      unfolding putting
+      joined ps e″ x =
+          let c = ap (λ (s : List ℕ). s ++ pointsBytes ps) head-is ∙ sym (path-split (p .layer) (p .datatype) (p .pathType) l ps m (x ∙ sym j)) in
+          ap₂ (λ (o : List ℕ) (t : ℕ). written o t e″)
+          (sym (at-turn (u .wrote) (pointsBytes ps)) ∙ ap (λ (s : List ℕ). splice at s before) c)
+          (sum ps ∙ ap (λ (s : List ℕ). at + length s) c)
+        where
+          go : (at to a b s : ℕ) → to ≡ at + a → s ≡ a + b → to + b ≡ at + s
+          go at to a b s h k = omega arith
+
+          sum : (ps : List (Point ℤ)) → to + length (pointsBytes ps) ≡ at + length (pathHead (p .layer) (p .datatype) k (extent w z1 b z2 n z3) m ++ pointsBytes ps)
+          sum ps =
+              let hs = pathHead (p .layer) (p .datatype) k (extent w z1 b z2 n z3) m in
+              go at to (length hs) (length (pointsBytes ps)) (length (hs ++ pointsBytes ps)) (u .wrote .count) (length-append hs (pointsBytes ps))
+
+      pub path-written : (last : List ℕ) (s : Written) → Writes pointsBytes e′ (writePoints policy d 0 (p .points)) to cur last s → Writes pathBytes e (writePath policy d p) at before last s
+      path-written last s x =
+          subst (λ (o : Outcome). Owes o last s)
+          (run-counted stopped policy d 0 (p .points) e′ (putting pointsBytes to cur) (λ ps e″. putting pathBytes at before (drawn policy d p l ps) e″) joined
+          ∙ front-goes-on policy d p stopped e (putting pathBytes at before) r h w q1 b q2 n q3 e′ g)
+          x
+
+-- ---- what comes out is there as on the sheet: what follows may count on it
+
+-- the lengths that are on the sheet
+record Kept (p : S.Path) (x : Extent) : Type 0 where
+  width : isSome (x .width) ≡ isSome (p .width)
+  begin : isSome (x .begin) ≡ isSome (p .begin)
+  end : isSome (x .end) ≡ isSome (p .end)
+
+module _ (policy : GdsRoundingPolicy) (d : Float) {Z : Type 0} (stop : Refusal → Z) where
+  run-length : (f : ℕ) (x : Option Units.Unit) (e : Entry) (k l : Option ℤ → Entry → Z) → ((y : Option ℤ) (e′ : Entry) → isSome y ≡ isSome x → k y e′ ≡ l y e′)
+      → run stop e (writeLength policy d f x) k ≡ run stop e (writeLength policy d f x) l
+  unfolding writeLength
+  run-length f none e k l h = run-pure stop e none k ∙ h none e refl ∙ sym (run-pure stop e none l)
+  run-length f (some u) e k l h =
+      run-map stop e _ some k ∙ run-same stop e _ _ _ (λ q e′. h (some q) e′ refl) ∙ sym (run-map stop e _ some l)
+
+  module _ (p : S.Path) where
+    expanded : (e : Entry) (k : Extent → Entry → Z) → run stop e (writeExtent policy d p) k
+        ≡ run stop e (writeLength policy d widthField (p .width)) (λ w e1. run stop e1 (writeLength policy d beginField (p .begin)) (λ b e2. run stop e2 (writeLength policy d endField (p .end)) (λ n e3. k (record { width = w; begin = b; end = n }) e3)))
+    unfolding writeExtent
+    expanded e k =
+        run-bind stop e _ _ k ∙ run-same stop e _ _ _ (λ w e1. run-bind stop e1 _ _ k ∙ run-same stop e1 _ _ _ (λ b e2. run-map stop e2 _ (λ n. record { width = w; begin = b; end = n }) k))
+
+    run-extent : (e : Entry) (k l : Extent → Entry → Z) → ((x : Extent) (e′ : Entry) → Kept p x → k x e′ ≡ l x e′) → run stop e (writeExtent policy d p) k ≡ run stop e (writeExtent policy d p) l
+    run-extent e k l h =
+        expanded e k
+        ∙ run-length widthField (p .width) e _ _ (λ w e1 h1. run-length beginField (p .begin) e1 _ _ (λ b e2 h2. run-length endField (p .end) e2 _ _ (λ n e3 h3.
+        h (record { width = w; begin = b; end = n }) e3 (record { width = h1; begin = h2; end = h3 }))))
+        ∙ sym (expanded e l)
+
+    run-front : (e : Entry) (k l : Extent → Entry → Z) → ((x : Extent) (e′ : Entry) → Kept p x → k x e′ ≡ l x e′) → run stop e (writeFront policy d p) k ≡ run stop e (writeFront policy d p) l
+    unfolding writeFront
+    run-front e k l h =
+        run-then stop e _ _ k
+        ∙ run-same stop e _ _ _ (λ u e1. run-then stop e1 _ _ k ∙ run-same stop e1 _ _ _ (λ v e2. run-extent e2 k l h) ∙ sym (run-then stop e1 _ _ l))
+        ∙ sym (run-then stop e _ _ l)
+
+    run-path : (e : Entry) (k l : D.Path → Entry → Z)
+        → ((x : Extent) (ps : List (Point ℤ)) (e′ : Entry) → Kept p x → length ps ≡ length (p .points) → k (drawn policy d p x ps) e′ ≡ l (drawn policy d p x ps) e′)
+        → run stop e (writePath policy d p) k ≡ run stop e (writePath policy d p) l
+    run-path e k l h =
+        whole k
+        ∙ run-front e _ _ (λ x e′ g. run-counted stop policy d 0 (p .points) e′ _ _ (λ ps e″ c. h x ps e″ g c))
+        ∙ sym (whole l)
+      where
+        whole : (k : D.Path → Entry → Z) → run stop e (writePath policy d p) k ≡ run stop e (writeFront policy d p) (λ x e′. run stop e′ (writePoints policy d 0 (p .points)) (λ ps e″. k (drawn policy d p x ps) e″))
+        whole k =
+            path-is policy d p stop e k
+            ∙ run-bind stop e (writeFront policy d p) _ k
+            ∙ run-same stop e (writeFront policy d p) _ _ (λ x e′. run-map stop e′ (writePoints policy d 0 (p .points)) (drawn policy d p x) k)
+
+-- what the definition gives has the length that the sheet tells
+pub path-length : (policy : GdsRoundingPolicy) (d : Float) (p : S.Path) (w : D.Path) (vs : List Deviation) → writePath policy d p ≡ made w vs → length (pathBytes w) ≡ pathLength p
+unfolding run pathLength
+path-length policy d p w vs h =
+    sym (ap (λ (m : Made D.Path). run (λ x. 0) (blankEntry 0 0) m (λ y e. length (pathBytes y))) h)
+    ∙ run-path policy d (λ x. 0) p (blankEntry 0 0) (λ y e. length (pathBytes y)) (λ y e. pathLength p) each
+    ∙ ap (λ (m : Made D.Path). run (λ x. 0) (blankEntry 0 0) m (λ y e. pathLength p)) h
+  where
+    each : (x : Extent) (ps : List (Point ℤ)) (e : Entry) → Kept p x → length ps ≡ length (p .points) → length (pathBytes (drawn policy d p x ps)) ≡ pathLength p
+    each x ps e g c =
+        length-path (p .layer) (p .datatype) (p .pathType) x ps (length (p .points)) c
+        ∙ ap (λ (t : Bool). headLength (isSome (p .pathType)) t (isSome (x .begin)) (isSome (x .end)) + 8 * length (p .points)) (g .width)
+        ∙ ap₂ (λ (t u : Bool). headLength (isSome (p .pathType)) (isSome (p .width)) t u + 8 * length (p .points)) (g .begin) (g .end)

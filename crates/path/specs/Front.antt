@@ -1,0 +1,90 @@
+-- The steps of a path before its points: its checks and its three lengths (document 01, "Who can cause which refusal", 8 and 9, and "Result two";
+-- `write_path_with_converter` of write/mod.rs), and what the code answers of them. Assumes nothing.
+use mathlib.Core.Path.{_≡_}
+use mathlib.Core.Bool.{Bool}
+use mathlib.Core.Option.{Option}
+use Prim.Native.Nat.{ℕ, _+_, _≤_}
+use lib.ListN.{length}
+use lib.IntN.{ℤ}
+use lib.Ieee.{Float}
+use Rattle.refusal.specs.declared.Refusal.{Refusal}
+use Rattle.refusal.specs.declared.Refusal.the-variants as R
+use Rattle.conversion.specs.declared.GdsRoundingPolicy.{GdsRoundingPolicy}
+use Rattle.conversion.specs.declared.Entry.{Entry}
+use Rattle.conversion.specs.Made.{Made, pure, need, _>>=_, _>>_}
+use Rattle.conversion.specs.Fold.{run}
+use Rattle.conversion.specs.Points.{writeLength}
+use Rattle.conversion.specs.Field.{widthField, beginField, endField}
+use Rattle.sheet.specs.Element as S
+use Rattle.records.specs.Bytes.{optionOf}
+use Rattle.cell.specs.Limits.{within, minPathPoints, maxPoints}
+use Rattle.cell.specs.Write.{isSome, layerAndType}
+use Rattle.path.specs.declared.Length.{Length}
+use Rattle.path.specs.declared.Length.the-variants as L
+use Rattle.path.specs.declared.Lengths.{Lengths}
+use Rattle.path.specs.declared.Lengths.the-variants as F
+
+-- ---- the steps
+
+-- the three lengths, each of which may be absent
+pub record Extent : Type 0 where
+  pub width : Option ℤ
+  pub begin : Option ℤ
+  pub end : Option ℤ
+
+-- of flags and values
+abbrev pub extent : Bool → ℤ → Bool → ℤ → Bool → ℤ → Extent
+extent wide width begun begin ended end = record { width = optionOf wide width; begin = optionOf begun begin; end = optionOf ended end }
+
+module _ (policy : GdsRoundingPolicy) (d : Float) where
+  unfoldable pub writeExtent : S.Path → Made Extent
+  writeExtent e = do
+    w ← writeLength policy d widthField (e .width)
+    b ← writeLength policy d beginField (e .begin)
+    n ← writeLength policy d endField (e .end)
+    pure (record { width = w; begin = b; end = n })
+
+  -- the steps of `writePath` before its points
+  unfoldable pub writeFront : S.Path → Made Extent
+  writeFront e = do
+    need (within minPathPoints (length (e .points)) maxPoints) R.PointCount
+    layerAndType (e .layer) (e .datatype)
+    writeExtent e
+
+-- ---- what the code answers: a refusal, or a value with the element's entry after it
+
+pub data Answer (A : Type 0) : Type 0 where
+  refuses : Refusal → Answer A
+  gives : A → Entry → Answer A
+
+abbrev pub lengthOf : Length → Answer (Option ℤ)
+lengthOf (L.Refused r) = refuses r
+lengthOf (L.At there value e) = gives (optionOf there value) e
+
+abbrev pub extentOf : Lengths → Answer Extent
+extentOf (F.Refused r) = refuses r
+extentOf (F.At wide width begun begin ended end e) = gives (extent wide width begun begin ended end) e
+
+-- A length is there if it is on the sheet, and brings at most one deviation more.
+abbrev pub LengthFits : Bool → ℕ → Length → Type 0
+LengthFits on n (L.Refused r) = Unit {0}
+LengthFits on n (L.At there value e) = (there ≡ on) × (e .count ≤ n + 1)
+
+pub record GivesLength (on : Bool) (e : Entry) (m : Made (Option ℤ)) (r : Length) : Type 0 where
+  pub is : lengthOf r ≡ run refuses e m gives
+  pub fits : LengthFits on (e .count) r
+
+-- the same of the three
+pub record Fits (p : S.Path) (n : ℕ) (wide begun ended : Bool) (e : Entry) : Type 0 where
+  pub wide-is : wide ≡ isSome (p .width)
+  pub begun-is : begun ≡ isSome (p .begin)
+  pub ended-is : ended ≡ isSome (p .end)
+  pub grown : e .count ≤ n + 3
+
+abbrev pub ExtentFits : S.Path → ℕ → Lengths → Type 0
+ExtentFits p n (F.Refused r) = Unit {0}
+ExtentFits p n (F.At wide width begun begin ended end e) = Fits p n wide begun ended e
+
+pub record GivesExtent (p : S.Path) (e : Entry) (m : Made Extent) (r : Lengths) : Type 0 where
+  pub is : extentOf r ≡ run refuses e m gives
+  pub fits : ExtentFits p (e .count) r

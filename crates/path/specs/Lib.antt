@@ -1,0 +1,3 @@
+-- A path's lengths on the grid, its bytes and their length.
+pub mod Front
+pub mod Length

@@ -1,0 +1,4 @@
+-- Laws that this crate's proofs and other crates' cite: values and points as steps, points in turn, and what an answer says of its step.
+pub mod ValueLaws
+pub mod WalkLaws
+pub mod EndsLaws

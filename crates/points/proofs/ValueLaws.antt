@@ -1,0 +1,107 @@
+-- A value's answer is its step's, and so is a point's: each way out of the code. Assumes nothing.
+use mathlib.Core.Path.{_≡_, refl, sym, ap, ap₂, _∙_, subst}
+use Prim.Native.Nat.{ℕ, _+_, _≤_}
+use native.Mathlib.Omega.{arith}
+use lib.IntN.{ℤ}
+use lib.Ieee.{Float}
+use Rattle.refusal.specs.declared.Refusal.{Refusal}
+use Rattle.units.specs.declared.Unit.{Unit}
+use Rattle.units.specs.Point.{Point}
+use Rattle.conversion.specs.declared.Conversion.{Conversion}
+use Rattle.conversion.specs.declared.Conversion.the-variants as C
+use Rattle.conversion.specs.declared.Deviation.{Deviation}
+use Rattle.conversion.specs.declared.Entry.{Entry}
+use Rattle.conversion.specs.declared.GdsRoundingPolicy.{GdsRoundingPolicy}
+use Rattle.conversion.specs.Answer.{outcome}
+use Rattle.conversion.specs.Convert.{Spot, convertUnit}
+use Rattle.conversion.specs.Field.{xAxis, yAxis}
+use Rattle.conversion.specs.Fold.{noted, notedAll, run}
+use Rattle.conversion.specs.Made.{Made, pure, _>>=_}
+use Rattle.conversion.specs.Points.{spot, writePoint}
+use Rattle.conversion.proofs.FoldLaws.{noted-count, run-bind, run-pure}
+use Rattle.writing.proofs.StepLaws.{run-through}
+use Rattle.points.specs.declared.Valued.{Valued}
+use Rattle.points.specs.declared.Valued.the-variants as G
+use Rattle.points.specs.declared.Pointed.the-variants as P
+use Rattle.points.specs.Walk.{valued, ValueGrown, Values, pointed, Converts}
+
+-- ---- a conversion's answer. z and w are what the machine reads back of the value q.
+
+module _ (e : Entry) (at : Spot) (c : Conversion) where
+  abbrev answer : Conversion → Valued
+  answer y = run G.Refused e (outcome at y) valued
+
+  pub value-refused : (x : Refusal) → c ≡ C.Refused x → Values e (outcome at c) (G.Refused x)
+  unfolding run
+  value-refused x g = record { is = ap answer (sym g); grown = tt }
+
+  pub value-exact : (q z : ℤ) → c ≡ C.Converted q → z ≡ q → Values e (outcome at c) (G.At z e)
+  unfolding run notedAll
+  value-exact q z g i = record { is = ap (λ (y : ℤ). G.At y e) i ∙ ap answer (sym g); grown = omega arith }
+
+  pub value-quantized : (q z w : ℤ) (p x : Float) (r : Entry) → c ≡ C.Quantized q p x → z ≡ q → w ≡ q
+      → r ≡ noted e (record { field = at .field; axis = at .axis; place = at .place; physical = p; database = w; error = x }) → Values e (outcome at c) (G.At z r)
+  unfolding run notedAll
+  value-quantized q z w p x r g i j h =
+      record {
+        is = ap₂ G.At i (h ∙ ap (λ (y : ℤ). noted e (deviation y)) j) ∙ ap answer (sym g);
+        grown = go (r .count) (e .count) (ap (λ (y : Entry). y .count) h ∙ noted-count e (deviation w));
+      }
+    where
+      deviation : ℤ → Deviation
+      deviation y = record { field = at .field; axis = at .axis; place = at .place; physical = p; database = y; error = x }
+
+      go : (a b : ℕ) → a ≡ b + 1 → a ≤ b + 1
+      go a b h = omega arith
+
+-- the step in other words
+pub same-values : {e : Entry} {m n : Made ℤ} {r : Valued} → m ≡ n → Values e m r → Values e n r
+same-values {e} {m} {n} {r} g v = subst (λ (o : Made ℤ). Values e o r) g v
+
+-- ---- a value, then what is left
+
+module _ {R : Type 0} (stop : Refusal → R) {B : Type 0} (e : Entry) (m : Made ℤ) (f : ℤ → Made B) (k : B → Entry → R) (r : Valued) (h : Values e m r) where
+  abbrev spread : Valued → R
+  spread (G.Refused x) = stop x
+  spread (G.At q e′) = run stop e′ (f q) k
+
+  left : spread r ≡ run stop e (m >>= f) k
+  left = ap spread (h .is) ∙ run-through G.Refused valued spread stop (λ q e′. run stop e′ (f q) k) (λ x. refl) (λ q e′. refl) e m ∙ sym (run-bind stop e m f k)
+
+  pub value-stops : (x : Refusal) → r ≡ G.Refused x → stop x ≡ run stop e (m >>= f) k
+  value-stops x g = ap spread (sym g) ∙ left
+
+  pub value-goes-on : (q : ℤ) (e′ : Entry) → r ≡ G.At q e′ → run stop e′ (f q) k ≡ run stop e (m >>= f) k
+  value-goes-on q e′ g = ap spread (sym g) ∙ left
+
+-- ---- a point: each way out. z and w are what the machine reads back of x and y.
+
+module _ (policy : GdsRoundingPolicy) (d : Float) (f k : ℕ) (p : Point Unit) (e : Entry) (r : Valued) (h : Values e (convertUnit policy d (spot f xAxis k) (p .x)) r) where
+  abbrev after : ℤ → Made (Point ℤ)
+  after x = convertUnit policy d (spot f yAxis k) (p .y) >>= λ y. pure (record { x = x; y = y })
+
+  pub point-stops : (x : Refusal) → r ≡ G.Refused x → Converts e (writePoint policy d f k p) (P.Refused x)
+  unfolding writePoint
+  point-stops x g = record { is = value-stops P.Refused e (convertUnit policy d (spot f xAxis k) (p .x)) after pointed r h x g; grown = tt }
+
+  module _ (x z : ℤ) (e1 : Entry) (g : r ≡ G.At x e1) (i : z ≡ x) (s : Valued) (j : Values e1 (convertUnit policy d (spot f yAxis k) (p .y)) s) where
+    first : run P.Refused e1 (after x) pointed ≡ run P.Refused e (writePoint policy d f k p) pointed
+    unfolding writePoint
+    first = value-goes-on P.Refused e (convertUnit policy d (spot f xAxis k) (p .x)) after pointed r h x e1 g
+
+    pub point-stops-at-y : (y : Refusal) → s ≡ G.Refused y → Converts e (writePoint policy d f k p) (P.Refused y)
+    point-stops-at-y y g2 =
+        record { is = value-stops P.Refused e1 (convertUnit policy d (spot f yAxis k) (p .y)) (λ y. pure (record { x = x; y = y })) pointed s j y g2 ∙ first; grown = tt }
+
+    pub point-made : (y w : ℤ) (e2 : Entry) → s ≡ G.At y e2 → w ≡ y → Converts e (writePoint policy d f k p) (P.At z w e2)
+    point-made y w e2 g2 i2 =
+        record {
+          is = ap₂ (λ (u v : ℤ). P.At u v e2) i i2
+              ∙ sym (run-pure P.Refused e2 (record { x = x; y = y }) pointed)
+              ∙ value-goes-on P.Refused e1 (convertUnit policy d (spot f yAxis k) (p .y)) (λ y. pure (record { x = x; y = y })) pointed s j y e2 g2
+              ∙ first;
+          grown = go (e .count) (e1 .count) (e2 .count) (subst (ValueGrown (e .count)) g (h .grown)) (subst (ValueGrown (e1 .count)) g2 (j .grown));
+        }
+      where
+        go : (a b c : ℕ) → b ≤ a + 1 → c ≤ b + 1 → c ≤ a + 2
+        go a b c h k = omega arith

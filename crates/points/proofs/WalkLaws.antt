@@ -1,0 +1,146 @@
+-- Points in turn: a turn of each loop, whatever is to follow, and how many points there are. Assumes nothing.
+use mathlib.Core.Path.{_≡_, refl, sym, ap, ap₂, _∙_}
+use mathlib.Core.List.{List, [], _∷_, _++_}
+use Prim.Native.Nat.{ℕ, zero, suc, _+_, _-_, _*_, _≤_, _<_}
+use native.Mathlib.Omega.{arith}
+use lib.ListN.{length}
+use lib.IntN.{ℤ}
+use lib.Ieee.{Float}
+use mir.Syntax.{w32}
+use mir.Val.{SFits, toZ, ofZ}
+use mir.ValLaws.{toZ-ofZ}
+use Rattle.refusal.specs.declared.Refusal.{Refusal}
+use Rattle.units.specs.declared.Unit.{Unit}
+use Rattle.units.specs.Point.{Point}
+use Rattle.big_endian.specs.Buffer.{WroteAt}
+use Rattle.big_endian.proofs.BufferLaws.{at-turn, at-end}
+use Rattle.conversion.specs.declared.Deviation.{Deviation}
+use Rattle.conversion.specs.declared.Entry.{Entry}
+use Rattle.conversion.specs.declared.GdsRoundingPolicy.{GdsRoundingPolicy}
+use Rattle.conversion.specs.Made.{Made, made}
+use Rattle.conversion.specs.Fold.{blankEntry, run}
+use Rattle.conversion.specs.Points.{writePoint, writePoints}
+use Rattle.conversion.proofs.FoldLaws.{run-bind, run-pure, run-map, run-same}
+use Rattle.stream.specs.Records.{longBytes, pointsBytes}
+use Rattle.writing.proofs.StepLaws.{run-through}
+use Rattle.forms.specs.Place.{valuesFrom, pointAt, pointsFrom}
+use Rattle.points.specs.declared.Pointed.{Pointed}
+use Rattle.points.specs.declared.Pointed.the-variants as P
+use Rattle.points.specs.declared.Walked.the-variants as W
+use Rattle.points.specs.Walk.{pointed, Converts, through, walked, put, putEnds}
+
+-- a point by its bits, as code has it between two calls
+abbrev pub pointOf : ℕ → ℕ → Point ℤ
+pointOf x y = record { x = toZ w32 x; y = toZ w32 y }
+
+pub point-back : (x y : ℤ) → SFits w32 x → SFits w32 y → _≡_ {A = Point ℤ} (pointOf (ofZ w32 x) (ofZ w32 y)) (record { x = x; y = y })
+point-back x y f g = ap₂ (λ (u v : ℤ). record { x = u; y = v }) (toZ-ofZ w32 x f) (toZ-ofZ w32 y g)
+
+pub length-from : (n : ℕ) (s : List ℕ) (at : ℕ) → length (pointsFrom n s at) ≡ n
+unfolding valuesFrom
+length-from zero s at = refl
+length-from (suc n) s at = ap suc (length-from n s (at + 34))
+
+-- ---- what is left after a point
+
+module _ {R : Type 0} (stop : Refusal → R) where
+  abbrev spread : (Point ℤ → Entry → R) → Pointed → R
+  spread k (P.Refused x) = stop x
+  spread k (P.At x y e) = k (record { x = x; y = y }) e
+
+  module _ (policy : GdsRoundingPolicy) (d : Float) where
+    turn : (e : Entry) (i : ℕ) (p : Point Unit) (ps : List (Point Unit)) (k : List (Point ℤ) → Entry → R)
+        → run stop e (writePoints policy d i (p ∷ ps)) k ≡ run stop e (writePoint policy d 0 i p) (λ q e′. run stop e′ (writePoints policy d (suc i) ps) (λ qs e″. k (q ∷ qs) e″))
+    unfolding writePoints
+    turn e i p ps k =
+        run-bind stop e (writePoint policy d 0 i p) _ k
+        ∙ run-same stop e (writePoint policy d 0 i p) _ _ (λ q e′. run-map stop e′ (writePoints policy d (suc i) ps) (λ qs. q ∷ qs) k)
+
+    -- as many points come out as go in: what follows may count on it
+    pub run-counted : (i : ℕ) (ps : List (Point Unit)) (e : Entry) (k l : List (Point ℤ) → Entry → R) → ((qs : List (Point ℤ)) (e′ : Entry) → length qs ≡ length ps → k qs e′ ≡ l qs e′)
+        → run stop e (writePoints policy d i ps) k ≡ run stop e (writePoints policy d i ps) l
+    unfolding writePoints
+    run-counted i [] e k l h = run-pure stop e [] k ∙ h [] e refl ∙ sym (run-pure stop e [] l)
+    run-counted i (p ∷ ps) e k l h =
+        turn e i p ps k
+        ∙ run-same stop e (writePoint policy d 0 i p) _ _
+        (λ q e′. run-counted (suc i) ps e′ (λ qs e″. k (q ∷ qs) e″) (λ qs e″. l (q ∷ qs) e″) (λ qs e″ g. h (q ∷ qs) e″ (ap suc g)))
+        ∙ sym (turn e i p ps l)
+
+    module _ (n i : ℕ) (s : List ℕ) (at : ℕ) (e : Entry) (k : List (Point ℤ) → Entry → R) where
+      points-next : i < n → pointsFrom (n - i) s at ≡ pointAt s at ∷ pointsFrom (n - (i + 1)) s (at + 34)
+      unfolding valuesFrom
+      points-next h = ap (λ (j : ℕ). pointsFrom j s at) (go n i h)
+        where
+          go : (n i : ℕ) → i < n → n - i ≡ suc (n - (i + 1))
+          go n i h = omega arith
+
+      points-end : n ≤ i → pointsFrom (n - i) s at ≡ []
+      unfolding valuesFrom
+      points-end h = ap (λ (j : ℕ). pointsFrom j s at) (go n i h)
+        where
+          go : (n i : ℕ) → n ≤ i → n - i ≡ 0
+          go n i h = omega arith
+
+      abbrev next : Point ℤ → Entry → R
+      next q e′ = run stop e′ (writePoints policy d (i + 1) (pointsFrom (n - (i + 1)) s (at + 34))) (λ qs e″. k (q ∷ qs) e″)
+
+      met : i < n → (r : Pointed) → Converts e (writePoint policy d 0 i (pointAt s at)) r → run stop e (writePoints policy d i (pointsFrom (n - i) s at)) k ≡ spread next r
+      met h r c =
+          ap (λ (ps : List (Point Unit)). run stop e (writePoints policy d i ps) k) (points-next h)
+          ∙ turn e i (pointAt s at) (pointsFrom (n - (i + 1)) s (at + 34)) k
+          ∙ ap (λ (j : ℕ). run stop e (writePoint policy d 0 i (pointAt s at)) (λ q e′. run stop e′ (writePoints policy d j (pointsFrom (n - (i + 1)) s (at + 34))) (λ qs e″. k (q ∷ qs) e″))) (go i)
+          ∙ sym (run-through P.Refused pointed (spread next) stop next (λ x. refl) (λ q e′. refl) e (writePoint policy d 0 i (pointAt s at)))
+          ∙ ap (spread next) (sym (c .is))
+        where
+          go : (i : ℕ) → suc i ≡ i + 1
+          go i = omega arith
+
+      pub go-on : i < n → (r : Pointed) → Converts e (writePoint policy d 0 i (pointAt s at)) r → (x y : ℤ) (e2 : Entry) → r ≡ P.At x y e2
+          → run stop e (writePoints policy d i (pointsFrom (n - i) s at)) k ≡ run stop e2 (writePoints policy d (i + 1) (pointsFrom (n - (i + 1)) s (at + 34))) (λ qs e′. k (record { x = x; y = y } ∷ qs) e′)
+      go-on h r c x y e2 g = met h r c ∙ ap (spread next) g
+
+      pub go-stop : i < n → (r : Pointed) → Converts e (writePoint policy d 0 i (pointAt s at)) r → (x : Refusal) → r ≡ P.Refused x → run stop e (writePoints policy d i (pointsFrom (n - i) s at)) k ≡ stop x
+      go-stop h r c x g = met h r c ∙ ap (spread next) g
+
+      pub go-end : n ≤ i → run stop e (writePoints policy d i (pointsFrom (n - i) s at)) k ≡ k [] e
+      unfolding writePoints
+      go-end h = ap (λ (ps : List (Point Unit)). run stop e (writePoints policy d i ps) k) (points-end h) ∙ run-pure stop e [] k
+
+      pub whole-first : run stop e (writePoints policy d i (pointsFrom n s at)) k ≡ run stop e (writePoints policy d i (pointsFrom (n - 0) s at)) k
+      whole-first = ap (λ (j : ℕ). run stop e (writePoints policy d i (pointsFrom j s at)) k) (go n)
+        where
+          go : (n : ℕ) → n ≡ n - 0
+          go n = omega arith
+
+-- ---- how many there are
+
+pub length-made : (policy : GdsRoundingPolicy) (d : Float) (i : ℕ) (ps : List (Point Unit)) (qs : List (Point ℤ)) (vs : List Deviation) → writePoints policy d i ps ≡ made qs vs → length qs ≡ length ps
+unfolding run
+length-made policy d i ps qs vs h =
+    sym (ap (λ (m : Made (List (Point ℤ))). run (λ x. 0) (blankEntry 0 0) m (λ ys e. length ys)) h)
+    ∙ run-counted (λ x. 0) policy d i ps (blankEntry 0 0) (λ ys e. length ys) (λ ys e. length ps) (λ ys e g. g)
+    ∙ ap (λ (m : Made (List (Point ℤ))). run (λ x. 0) (blankEntry 0 0) m (λ ys e. length ps)) h
+
+-- eight bytes each
+pub length-bytes : (qs : List (Point ℤ)) → length (pointsBytes qs) ≡ 8 * length qs
+length-bytes [] = refl
+length-bytes (q ∷ qs) = let h = length-bytes qs in omega arith
+
+-- ---- a turn that writes: what is still to be written stands at the place reached
+
+module _ (x y : ℤ) {at r : ℕ} {d d′ : List ℕ} (w : WroteAt (longBytes x ++ longBytes y) d d′ at r) (qs : List (Point ℤ)) (e : Entry) where
+  abbrev q : Point ℤ
+  q = record { x = x; y = y }
+
+  pub put-turn : (f l : Point ℤ) → putEnds pointsBytes (through f l) at d (q ∷ qs) e ≡ putEnds pointsBytes (through f q) r d′ qs e
+  unfolding putEnds through
+  put-turn f l = ap (λ (b : List ℕ). put b (through f q qs e)) (at-turn w (pointsBytes qs))
+
+  pub put-first : putEnds pointsBytes walked at d (q ∷ qs) e ≡ putEnds pointsBytes (through q q) r d′ qs e
+  unfolding putEnds walked
+  put-first = ap (λ (b : List ℕ). put b (through q q qs e)) (at-turn w (pointsBytes qs))
+
+pub put-end : (f l : Point ℤ) (at : ℕ) (d : List ℕ) (e : Entry) → putEnds pointsBytes (through f l) at d [] e ≡ put d (W.Through (f .x) (f .y) (l .x) (l .y) e)
+unfolding putEnds through
+put-end f l at d e = ap (λ (b : List ℕ). put b (W.Through (f .x) (f .y) (l .x) (l .y) e)) (at-end at d)

@@ -1,0 +1,73 @@
+-- `points::measure_points` meets its contract: the first point, then the rest. Assumes nothing.
+use mathlib.Core.Path.{sym, ap, _∙_, subst}
+use Prim.Native.Nat.{_+_, _-_, _≤_}
+use native.Mathlib.Omega.{arith}
+use lib.IntN.{ℤ}
+use mir.Syntax.{w32}
+use mir.Val.{SFits}
+use Rattle.units.specs.Point.{Point}
+use Rattle.conversion.specs.Fold.{run}
+use Rattle.conversion.specs.Points.{writePoints}
+use Rattle.forms.specs.Place.{pointsFrom}
+use Rattle.points.specs.declared.Walked.the-variants as W
+use Rattle.points.specs.Walk.{through, walked, PointGrown}
+use Rattle.points.proofs.WalkLaws.{point-back, go-on, go-stop, whole-first}
+use borrow.Author.Needs.{needs}
+use Rattle.points.proofs.measure_points.Statement.{statement}
+use Rattle.points.proofs.measure_points.Tie as tie
+
+convert-point-requires : tie.Need-convert-point-requires
+convert-point-requires c κs = search needs
+
+enum-known-refusal : tie.Need-enum-known-refusal
+enum-known-refusal c = search needs
+
+enum-known-x : tie.Need-enum-known-x
+enum-known-x c = search needs
+
+add-measure-rest : tie.Need-add-measure-rest
+add-measure-rest c = search needs
+
+measure-rest-requires : tie.Need-measure-rest-requires
+measure-rest-requires c κs =
+    let a = c .before .before .before .before .before .args in
+    let p = c .before .before .before .before .before .pre in
+    let g = c .before .x .given in
+    let k : g .0 .1 .1 .0 .count ≤ a .entry .count + 2 = subst (PointGrown (a .entry .count)) (g .1) (c .before .before .before .convert-point .ensures .grown) in
+    (omega arith, (p .1 .0, (p .1 .1 .0, omega arith)))
+
+returns : tie.Need-returns
+returns c =
+    let a = c .before .before .before .before .before .args in
+    let p = c .before .before .before .before .before .pre in
+    let r = c .before .before .before .convert-point in
+    let g = c .before .refusal .given in
+    sym (whole-first W.Refused (a .policy) (a .d) (a .n) 0 (a .b .now) (a .from) (a .entry) walked ∙ go-stop W.Refused (a .policy) (a .d) (a .n) 0 (a .b .now) (a .from) (a .entry) walked (p .1 .0) (r .result) (r .ensures) (g .0 .0) (g .1))
+
+returns-2 : tie.Need-returns-2
+unfolding walked
+returns-2 c =
+    let a = c .before .before .before .before .before .before .args in
+    let p = c .before .before .before .before .before .before .pre in
+    let r = c .before .before .before .before .convert-point in
+    let g = c .before .before .x .given in
+    let x = g .0 .0 in
+    let y = g .0 .1 .0 in
+    let e = g .0 .1 .1 .0 in
+    let fx : SFits w32 x = search needs in
+    let fy : SFits w32 y = search needs in
+    c .measure-rest .ensures
+    ∙ ap (λ (q : Point ℤ). run W.Refused e (writePoints (a .policy) (a .d) 1 (pointsFrom (a .n - 1) (a .b .now) (a .from + 34))) (through q q)) (point-back x y fx fy)
+    ∙ sym (whole-first W.Refused (a .policy) (a .d) (a .n) 0 (a .b .now) (a .from) (a .entry) walked ∙ go-on W.Refused (a .policy) (a .d) (a .n) 0 (a .b .now) (a .from) (a .entry) walked (p .1 .0) (r .result) (r .ensures) x y e (g .1))
+
+pub measure-points-spec : {M : Type 1} → statement M
+measure-points-spec =
+    tie.close
+    (tie.spec
+    convert-point-requires
+    enum-known-refusal
+    enum-known-x
+    add-measure-rest
+    measure-rest-requires
+    returns
+    returns-2)

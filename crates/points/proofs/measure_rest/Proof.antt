@@ -1,0 +1,128 @@
+-- `points::measure_rest` meets its contract. What is left to convert, run from the entry reached, stays what the whole was; the measure is how many points are left. Assumes nothing.
+use mathlib.Core.Path.{_≡_, refl, sym, ap, _∙_, subst}
+use mathlib.Core.List.{List}
+use Prim.Native.Nat.{ℕ, _+_, _*_, _-_, _≤_}
+use native.Mathlib.Omega.{arith}
+use borrow.Author.Needs.{needs}
+use lib.IntN.{ℤ}
+use lib.Ieee.{Float}
+use mir.Val.{SFits, ofZ}
+use mir.Syntax.{w32}
+use Rattle.units.specs.Point.{Point}
+use Rattle.conversion.specs.declared.Entry.{Entry}
+use Rattle.conversion.specs.declared.GdsRoundingPolicy.{GdsRoundingPolicy}
+use Rattle.conversion.specs.Fold.{run}
+use Rattle.conversion.specs.Points.{writePoints}
+use Rattle.forms.specs.Place.{pointsFrom}
+use Rattle.points.specs.declared.Walked.{Walked}
+use Rattle.points.specs.declared.Walked.the-variants as W
+use Rattle.points.specs.Walk.{through, PointGrown}
+use Rattle.points.proofs.WalkLaws.{pointOf, point-back, go-on, go-stop, go-end}
+use Rattle.points.proofs.measure_rest.Statement.{statement}
+use Rattle.points.proofs.measure_rest.Tie as tie
+
+-- what is left
+abbrev left : GdsRoundingPolicy → Float → List ℕ → ℕ → ℕ → ℕ → Entry → Point ℤ → Point ℤ → Walked
+left policy d b n i at e f l = run W.Refused e (writePoints policy d i (pointsFrom (n - i) b at)) (through f l)
+
+record Inv (policy : GdsRoundingPolicy) (d : Float) (b : List ℕ) (from n x0 y0 : ℕ) (e₀ : Entry) (i at x1 y1 : ℕ) (e : Entry) : Type 0 where
+  from1 : 1 ≤ i
+  within : i ≤ n
+  place : at + 34 ≡ from + 34 * i
+  small : e .count ≤ 18 + 2 * i
+  rest : left policy d b n 1 from e₀ (pointOf x0 y0) (pointOf x0 y0) ≡ left policy d b n i at e (pointOf x0 y0) (pointOf x1 y1)
+
+abbrev Inv-loop : tie.InvT-loop
+Inv-loop policy d b from n x0 y0 i₀ at₀ x1₀ y1₀ e₀ i at x1 y1 e = Inv policy d b from n x0 y0 e₀ i at x1 y1 e
+
+abbrev μ-loop : tie.MeasureT-loop
+μ-loop policy d b from n x0 y0 i₀ at₀ x1₀ y1₀ e₀ i at x1 y1 e = n - i
+
+loop-holds : tie.Need-loop-holds Inv-loop μ-loop
+loop-holds c = record { from1 = search needs; within = search needs; place = search needs; small = search needs; rest = refl }
+
+cast-convert-point : tie.Need-cast-convert-point Inv-loop μ-loop
+cast-convert-point c = search needs
+
+convert-point-requires : tie.Need-convert-point-requires Inv-loop μ-loop
+convert-point-requires c κs = search needs
+
+enum-known-refusal : tie.Need-enum-known-refusal Inv-loop μ-loop
+enum-known-refusal c = search needs
+
+returns : tie.Need-returns Inv-loop μ-loop
+returns c =
+    let a = c .before .before .before .before .before .before .before .args in
+    let f = c .before .before .before .before .before .before .before .fits in
+    let l = c .before .before .before .before .before .loop in
+    let r = c .before .before .before .convert-point in
+    let g = c .before .refusal .given in
+    sym
+    (sym (ap (λ (p : Point ℤ). left (a .policy) (a .d) (a .b .now) (a .n) 1 (a .from) (a .entry) p p) (point-back (a .x0) (a .y0) (f .x0) (f .y0)))
+    ∙ l .inv .rest
+    ∙ go-stop W.Refused (a .policy) (a .d) (a .n) (l .i) (a .b .now) (l .at) (l .e) (through (pointOf (ofZ w32 (a .x0)) (ofZ w32 (a .y0))) (pointOf (l .x1) (l .y1))) (c .before .before .before .before .loop-test .taken) (r .result) (r .ensures) (g .0 .0) (g .1))
+
+enum-known-x : tie.Need-enum-known-x Inv-loop μ-loop
+enum-known-x c = search needs
+
+add-at : tie.Need-add-at Inv-loop μ-loop
+add-at c = search needs
+
+add-i : tie.Need-add-i Inv-loop μ-loop
+add-i c = search needs
+
+loop-less : tie.Need-loop-less Inv-loop μ-loop
+loop-less c = search needs
+
+loop-again : tie.Need-loop-again Inv-loop μ-loop
+unfolding through
+loop-again c =
+    let a = c .before .before .before .before .before .before .before .args in
+    let l = c .before .before .before .before .before .loop in
+    let v = l .inv in
+    let r = c .before .before .before .convert-point in
+    let g = c .before .x .given in
+    let x = g .0 .0 in
+    let y = g .0 .1 .0 in
+    let e2 = g .0 .1 .1 .0 in
+    let fx : SFits w32 x = search needs in
+    let fy : SFits w32 y = search needs in
+    let k : e2 .count ≤ l .e .count + 2 = subst (PointGrown (l .e .count)) (g .1) (r .ensures .grown) in
+    record {
+      from1 = search needs;
+      within = search needs;
+      place = omega arith;
+      small = omega arith;
+      rest = v .rest
+          ∙ go-on W.Refused (a .policy) (a .d) (a .n) (l .i) (a .b .now) (l .at) (l .e) (through (pointOf (ofZ w32 (a .x0)) (ofZ w32 (a .y0))) (pointOf (l .x1) (l .y1))) (c .before .before .before .before .loop-test .taken) (r .result) (r .ensures) x y e2 (g .1)
+          ∙ sym (ap (left (a .policy) (a .d) (a .b .now) (a .n) (l .i + 1) (l .at + 34) e2 (pointOf (ofZ w32 (a .x0)) (ofZ w32 (a .y0)))) (point-back x y fx fy));
+    }
+
+returns-2 : tie.Need-returns-2 Inv-loop μ-loop
+unfolding through
+returns-2 c =
+    let a = c .before .before .before .args in
+    let f = c .before .before .before .fits in
+    let l = c .before .loop in
+    sym
+    (sym (ap (λ (p : Point ℤ). left (a .policy) (a .d) (a .b .now) (a .n) 1 (a .from) (a .entry) p p) (point-back (a .x0) (a .y0) (f .x0) (f .y0)))
+    ∙ l .inv .rest
+    ∙ go-end W.Refused (a .policy) (a .d) (a .n) (l .i) (a .b .now) (l .at) (l .e) (through (pointOf (ofZ w32 (a .x0)) (ofZ w32 (a .y0))) (pointOf (l .x1) (l .y1))) (c .loop-test .left))
+
+pub measure-rest-spec : {M : Type 1} → statement M
+measure-rest-spec =
+    tie.close
+    (tie.spec
+    Inv-loop
+    μ-loop
+    loop-holds
+    cast-convert-point
+    convert-point-requires
+    enum-known-refusal
+    returns
+    enum-known-x
+    add-at
+    add-i
+    loop-less
+    loop-again
+    returns-2)

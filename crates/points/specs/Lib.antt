@@ -1,0 +1,2 @@
+-- What the code answers for values and points of the grid.
+pub mod Walk

@@ -1,0 +1,79 @@
+-- What the code answers for values and points of the grid: the definition's steps run against the element's entry (document 01, "Result two" and "Result three";
+-- `write_points_to_file` of write/mod.rs). Assumes nothing.
+use mathlib.Core.Path.{_≡_}
+use mathlib.Core.List.{List, [], _∷_}
+use Prim.Native.Nat.{ℕ, _+_, _≤_}
+use lib.IntN.{ℤ, pos}
+use Rattle.refusal.specs.declared.Refusal.{Refusal}
+use Rattle.units.specs.Point.{Point}
+use Rattle.big_endian.specs.Buffer.{splice}
+use Rattle.conversion.specs.declared.Entry.{Entry}
+use Rattle.conversion.specs.Made.{Made}
+use Rattle.conversion.specs.Fold.{run}
+use Rattle.cell.specs.Write.{lastOf}
+use Rattle.points.specs.declared.Valued.{Valued}
+use Rattle.points.specs.declared.Valued.the-variants as G
+use Rattle.points.specs.declared.Pointed.{Pointed}
+use Rattle.points.specs.declared.Pointed.the-variants as P
+use Rattle.points.specs.declared.Walked.{Walked}
+use Rattle.points.specs.declared.Walked.the-variants as W
+
+-- ---- one value
+
+abbrev pub valued : ℤ → Entry → Valued
+valued q e = G.At q e
+
+-- at most one deviation more
+abbrev pub ValueGrown : ℕ → Valued → Type 0
+ValueGrown n (G.Refused r) = Unit {0}
+ValueGrown n (G.At q e) = e .count ≤ n + 1
+
+-- the answer is the step's
+pub record Values (e : Entry) (m : Made ℤ) (r : Valued) : Type 0 where
+  pub is : r ≡ run G.Refused e m valued
+  pub grown : ValueGrown (e .count) r
+
+-- ---- one point
+
+abbrev pub pointed : Point ℤ → Entry → Pointed
+pointed q e = P.At (q .x) (q .y) e
+
+-- at most two deviations more
+abbrev pub PointGrown : ℕ → Pointed → Type 0
+PointGrown n (P.Refused r) = Unit {0}
+PointGrown n (P.At x y e) = e .count ≤ n + 2
+
+pub record Converts (e : Entry) (m : Made (Point ℤ)) (r : Pointed) : Type 0 where
+  pub is : r ≡ run P.Refused e m pointed
+  pub grown : PointGrown (e .count) r
+
+-- ---- all points: the first, and the last that was met
+
+-- after the first point f, with l the last so far
+unfoldable pub through : Point ℤ → Point ℤ → List (Point ℤ) → Entry → Walked
+through f l ps e = W.Through (f .x) (f .y) (lastOf l ps .x) (lastOf l ps .y) e
+
+-- from the first on
+unfoldable pub walked : List (Point ℤ) → Entry → Walked
+walked [] e = W.Through (pos 0) (pos 0) (pos 0) (pos 0) e
+walked (p ∷ ps) e = through p p ps e
+
+-- ---- points written, with their ends
+
+-- a refusal; or every byte of the output, and the answer
+pub data Put : Type 0 where
+  stopped : Refusal → Put
+  put : List ℕ → Walked → Put
+
+-- the value's bytes from a place of the output on, and its ends
+unfoldable pub putEnds : {A : Type 0} → (A → List ℕ) → (A → Entry → Walked) → ℕ → List ℕ → A → Entry → Put
+putEnds bytes ends at before a e = put (splice at (bytes a) before) (ends a e)
+
+-- what the code's answer and the output owe
+abbrev pub Leaves : Put → List ℕ → Walked → Type 0
+Leaves (stopped x) after r = r ≡ W.Refused x
+Leaves (put bs w) after r = (after ≡ bs) × (r ≡ w)
+
+-- the answer is the step's, and so is every byte of the output where it is not refused
+abbrev pub Puts : {A : Type 0} → (A → List ℕ) → (A → Entry → Walked) → Entry → Made A → ℕ → List ℕ → List ℕ → Walked → Type 0
+Puts bytes ends e m at before after r = Leaves (run stopped e m (putEnds bytes ends at before)) after r

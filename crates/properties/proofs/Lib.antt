@@ -1,0 +1,2 @@
+-- Laws that other crates' proofs cite.
+pub mod TailLaws

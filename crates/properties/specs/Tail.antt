@@ -1,0 +1,25 @@
+-- The bytes of an element's properties and its ENDEL (document 01, "Then PROPATTR and PROPVALUE per property, ENDEL"), and their length by the block alone. Assumes nothing.
+use mathlib.Core.List.{List, [], _∷_, _++_}
+use Prim.Native.Nat.{ℕ, zero, suc, _+_, _%_}
+use Rattle.big_endian.specs.Big.{numberAt}
+use Rattle.sheet.specs.Element as S
+use Rattle.stream.specs.Strings.{padded}
+use Rattle.stream.specs.Structure as D
+use Rattle.stream.specs.Record.{PROPATTR, PROPVALUE, recordBytes, streamBytes}
+use Rattle.stream.specs.Records.{wordRecord, stringRecord, tailRecords}
+use Rattle.forms.specs.Place.{propertyEnd}
+
+-- what the records say of a property whose value is not too long
+abbrev pub said : S.Property → D.Property
+said q = record { attribute = q .attribute; value = padded (q .value) }
+
+abbrev pub propertyBytes : D.Property → List ℕ
+propertyBytes q = recordBytes (wordRecord PROPATTR (q .attribute)) ++ recordBytes (stringRecord PROPVALUE (q .value))
+
+unfoldable pub tailBytes : List D.Property → List ℕ
+tailBytes qs = streamBytes (tailRecords qs [])
+
+-- for each property a PROPATTR of 6 bytes, and a PROPVALUE of 4 and its value, made even; an ENDEL of 4
+unfoldable pub tailLength : ℕ → List ℕ → ℕ → ℕ
+tailLength zero b at = 4
+tailLength (suc n) b at = 10 + (numberAt 2 b (at + 2) + numberAt 2 b (at + 2) % 2) + tailLength n b (propertyEnd b at)

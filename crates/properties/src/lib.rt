@@ -1,0 +1,98 @@
+// An element's properties and its ENDEL (`write_element_tail_to_file` of write/mod.rs), from their place in the block.
+ghost use mathlib.Core.Path.{_≡_};
+ghost use Prim.Native.Nat.{_+_, _%_, _≤_};
+ghost use lib.ListN.{length};
+ghost use Rattle.big_endian.specs.Big.{numberAt};
+ghost use Rattle.cell.specs.Write.{writeProperties};
+ghost use Rattle.forms.specs.Place.{placeFrom, propertyAt, propertyEnd, propertiesFrom};
+ghost use Rattle.records.specs.Bytes.{Placed};
+ghost use Rattle.writing.specs.Steps.{Measures, Writes};
+ghost use Rattle.properties.specs.Tail.{said, propertyBytes, tailBytes, tailLength};
+use conversion::Entry;
+use refusal::Refusal;
+use writing::Measured;
+use writing::Written;
+
+// The longest value that a PROPVALUE record holds.
+const MAX_VALUE_LENGTH: usize = 65530;
+
+// How many bytes the value of the property at a place has.
+fn value_length(b: &[u8], at: usize) -> usize
+    requires { ⌜ at + 4 ≤ length (now b) ⌝ }
+    ensures { λ r. ⌜ r ≡ numberAt 2 (now (b .entry)) (at + 2) ⌝ }
+{
+    big_endian::u16_at(b, at + 2) as usize
+}
+
+// The first value that is too long, or the length of all records to the ENDEL.
+pub fn measure_tail(b: &[u8], from: usize, n: usize, entry: Entry) -> Measured
+    requires { ⌜ length (now b) ≤ 16777216 ⌝ }
+    requires { ⌜ placeFrom propertyEnd n (now b) from ≤ length (now b) ⌝ }
+    ensures { λ r. ⌜ Measures tailBytes entry (writeProperties (propertiesFrom n (now (b .entry)) from)) r ⌝ }
+{
+    let mut i: usize = 0;
+    let mut at = from;
+    let mut size: usize = 0;
+    while i < n {
+        let m = value_length(b, at);
+        if m > MAX_VALUE_LENGTH {
+            return Measured::Refused {
+                refusal: Refusal::StringLength,
+            };
+        }
+        size = size + 10 + m + m % 2;
+        at = at + 4 + m;
+        i = i + 1;
+    }
+    Measured::Through {
+        length: size + 4,
+        entry,
+    }
+}
+
+// PROPATTR and PROPVALUE of the property at a place of the block.
+fn put_property_at(out: &mut [u8], to: usize, b: &[u8], at: usize, m: usize) -> usize
+    requires { ⌜ m ≡ numberAt 2 (now b) (at + 2) ⌝ }
+    requires { ⌜ m ≤ 65530 ⌝ }
+    requires { ⌜ at + 4 + m ≤ length (now b) ⌝ }
+    requires { ⌜ to + (10 + (m + m % 2)) ≤ length (now out) ⌝ }
+    ensures { λ r. ⌜ Placed (propertyBytes (said (propertyAt (now (b .entry)) at))) (10 + (m + m % 2)) (now (out .entry)) (now (out .exit)) to r ⌝ }
+{
+    let attribute = big_endian::u16_at(b, at);
+    let a = records::put_word_at(out, to, records::PROPATTR, records::TWO_BYTE, attribute);
+    let from = at + 4;
+    records::put_string_at(out, a, records::PROPVALUE, &b[from..from + m])
+}
+
+// All of them, then ENDEL.
+pub fn put_tail(
+    b: &[u8],
+    from: usize,
+    n: usize,
+    out: &mut [u8],
+    start: usize,
+    entry: Entry,
+) -> Written
+    requires { ⌜ placeFrom propertyEnd n (now b) from ≤ length (now b) ⌝ }
+    requires { ⌜ start + tailLength n (now b) from ≤ length (now out) ⌝ }
+    ensures { λ r. ⌜ Writes tailBytes entry (writeProperties (propertiesFrom n (now (b .entry)) from)) start (now (out .entry)) (now (out .exit)) r ⌝ }
+{
+    let mut i: usize = 0;
+    let mut at = from;
+    let mut to = start;
+    while i < n {
+        let m = value_length(b, at);
+        if m > MAX_VALUE_LENGTH {
+            return Written::Refused {
+                refusal: Refusal::StringLength,
+            };
+        }
+        to = put_property_at(out, to, b, at, m);
+        at = at + 4 + m;
+        i = i + 1;
+    }
+    Written::Through {
+        to: records::put_empty_at(out, to, records::ENDEL),
+        entry,
+    }
+}

@@ -1,0 +1,28 @@
+-- A head, then the two numbers. Assumes nothing.
+use mathlib.Core.Path.{refl}
+use Rattle.stream.specs.Records.{colrowRecord}
+use Rattle.big_endian.proofs.BufferLaws.{then-at}
+use Rattle.records.proofs.RecordLaws.{record-at}
+use borrow.Author.Needs.{needs}
+use Rattle.records.proofs.put_colrow_at.Statement.{statement}
+use Rattle.records.proofs.put_colrow_at.Tie as tie
+
+put-head-at-requires : tie.Need-put-head-at-requires
+put-head-at-requires c κs = search needs
+
+put-u16-at-requires : tie.Need-put-u16-at-requires
+put-u16-at-requires c κs = search needs
+
+put-u16-at-requires-2 : tie.Need-put-u16-at-requires-2
+put-u16-at-requires-2 c κs = search needs
+
+same-length : tie.Need-same-length
+same-length c = search needs
+
+returns : tie.Need-returns
+returns c = let s = c .before .before .before .before .before .before .before .before .before .before .before .before .before in record-at (colrowRecord (s .args .columns) (s .args .rows)) 8 refl (c .before .before .before .before .before .before .before .before .before .before .put-head-at .ensures .wrote) (then-at (c .before .before .before .before .before .before .put-u16-at .ensures) (c .before .before .put-u16-at2 .ensures))
+
+pub put-colrow-at-spec : {M : Type 1} → statement M
+put-colrow-at-spec =
+    tie.close
+    (tie.spec put-head-at-requires put-u16-at-requires put-u16-at-requires-2 same-length returns)

@@ -1,0 +1,223 @@
+-- A text: each way out of its checks and conversions is the definition's, its records in the output, and their length. Assumes nothing.
+use mathlib.Core.Path.{_≡_, refl, sym, ap, ap₂, _∙_, subst}
+use mathlib.Core.Bool.{true, false}
+use mathlib.Core.Option.{Option, some}
+use mathlib.Core.List.{List, [], _∷_, append-nil}
+use Prim.Native.Nat.{ℕ, _+_, _*_, _%_, _≤_}
+use native.Mathlib.Omega.{arith}
+use lib.Dec.{leb, leb→le}
+use lib.ListN.{length, length-append, length-take, length-drop}
+use lib.IntN.{ℤ}
+use lib.Ieee.{Float}
+use Rattle.refusal.specs.declared.Refusal.{Refusal}
+use Rattle.refusal.specs.declared.Refusal.the-variants as R
+use Rattle.big_endian.specs.Big.{numberAt}
+use Rattle.units.specs.Point.{Point}
+use Rattle.conversion.specs.declared.Deviation.{Deviation}
+use Rattle.conversion.specs.declared.Entry.{Entry}
+use Rattle.conversion.specs.declared.GdsRoundingPolicy.{GdsRoundingPolicy}
+use Rattle.conversion.specs.Field.{originField}
+use Rattle.conversion.specs.Fold.{notedAll, run}
+use Rattle.conversion.specs.Made.{Made, refused, made, pure, _>>=_, _>>_}
+use Rattle.conversion.specs.Points.{writePoint}
+use Rattle.conversion.proofs.FoldLaws.{run-bind, run-need, run-unmet, run-map}
+use Rattle.conversion.proofs.MadeLaws.{Yields, made-yields, steps, checked}
+use Rattle.sheet.specs.Element as S
+use Rattle.stream.specs.Strings.{padded}
+use Rattle.stream.specs.Structure as D
+use Rattle.stream.specs.Record.{Rec, TEXT, LAYER, TEXTTYPE, PRESENTATION, STRING, recordBytes, streamBytes}
+use Rattle.stream.specs.Records.{emptyRecord, wordRecord, bitsRecord, xyRecord, stringRecord, opt, stransRecords, textRecords}
+use Rattle.cell.specs.Limits.{maxLayer, maxStringLength}
+use Rattle.cell.specs.Write.{writeTransform, writeText}
+use Rattle.records.specs.Bytes.{Placed, Recorded}
+use Rattle.records.proofs.RecordLaws.{length-record, length-padded, then-rest}
+use Rattle.forms.specs.declared.TextPlaces.{TextPlaces}
+use Rattle.forms.specs.Place.{stringAt, stringEnd}
+use Rattle.forms.specs.Forms.{textAt}
+use Rattle.points.specs.declared.Pointed.{Pointed}
+use Rattle.points.specs.declared.Pointed.the-variants as P
+use Rattle.points.specs.Walk.{pointed, Converts}
+use Rattle.transform.specs.declared.Strans.{Strans}
+use Rattle.transform.specs.Strans.{saidOf, stransBytes, stransLength}
+use Rattle.transform.proofs.StransLaws.{then-strans, length-strans, length-strans-of, transform-length}
+use Rattle.writing.proofs.StepLaws.{run-through}
+use Rattle.text.specs.Text.{SaidText, textBytes, sizeOf, textLength, textOf, stopped, ready}
+
+-- what the records say of a text whose transform and origin are these
+abbrev said : S.Text → Option D.Strans → Point ℤ → SaidText
+said t u o = record { layer = t .layer; texttype = t .texttype; presentation = some (4 * t .vertical + t .horizontal); transform = u; origin = o; string = padded (t .string) }
+
+pub said-of : (b : List ℕ) (s : TextPlaces) (t : Strans) (x y : ℤ) → said (textAt b s) (saidOf t) (record { x = x; y = y }) ≡ textOf b s t x y
+unfolding textOf textAt
+said-of b s t x y = refl
+
+-- ---- the checks and conversions in turn, whatever is to follow
+
+module _ {Z : Type 0} (stop : Refusal → Z) (e : Entry) (k : SaidText → Entry → Z) (policy : GdsRoundingPolicy) (d : Float) (t : S.Text) where
+  pub text-layer : leb (t .layer) maxLayer ≡ false → stop R.LayerOrType ≡ run stop e (writeText policy d t) k
+  unfolding writeText
+  text-layer h = sym (run-unmet stop e (leb (t .layer) maxLayer) R.LayerOrType _ k h)
+
+  module _ (h : leb (t .layer) maxLayer ≡ true) where
+    pub text-string : leb (length (t .string)) maxStringLength ≡ false → stop R.StringLength ≡ run stop e (writeText policy d t) k
+    unfolding writeText
+    text-string g =
+        sym (run-need stop e (leb (t .layer) maxLayer) R.LayerOrType _ k h ∙ run-unmet stop e (leb (length (t .string)) maxStringLength) R.StringLength _ k g)
+
+    module _ (g : leb (length (t .string)) maxStringLength ≡ true) where
+      abbrev rest : Option D.Strans → Made SaidText
+      rest u = writePoint policy d originField 0 (t .origin) >>= λ o. pure (said t u o)
+
+      checks : (m : Made (Option D.Strans)) → m ≡ writeTransform (t .degrees) (t .magnification) (t .reflection)
+          → run stop e m (λ u e′. run stop e′ (rest u) k) ≡ run stop e (writeText policy d t) k
+      unfolding writeText
+      checks m i =
+          ap (λ (n : Made (Option D.Strans)). run stop e n (λ u e′. run stop e′ (rest u) k)) i
+          ∙ sym (run-need stop e (leb (t .layer) maxLayer) R.LayerOrType _ k h ∙ run-need stop e (leb (length (t .string)) maxStringLength) R.StringLength _ k g ∙ run-bind stop e _ rest k)
+
+      pub text-transform : (x : Refusal) → refused x ≡ writeTransform (t .degrees) (t .magnification) (t .reflection) → stop x ≡ run stop e (writeText policy d t) k
+      unfolding run
+      text-transform x i = checks (refused x) i
+
+      module _ (u : Option D.Strans) (i : pure u ≡ writeTransform (t .degrees) (t .magnification) (t .reflection))
+          (r : Pointed) (j : Converts e (writePoint policy d originField 0 (t .origin)) r) where
+        abbrev spread : Pointed → Z
+        spread (P.Refused x) = stop x
+        spread (P.At x y e′) = k (said t u (record { x = x; y = y })) e′
+
+        after : run stop e (rest u) k ≡ run stop e (writeText policy d t) k
+        unfolding run notedAll
+        after = checks (pure u) i
+
+        origin : (q : Pointed) → r ≡ q → spread q ≡ run stop e (writeText policy d t) k
+        origin q l =
+            ap spread (sym l ∙ j .is)
+            ∙ run-through P.Refused pointed spread stop (λ o e′. k (said t u o) e′) (λ x. refl) (λ o e′. refl) e (writePoint policy d originField 0 (t .origin))
+            ∙ sym (run-map stop e (writePoint policy d originField 0 (t .origin)) (said t u) k)
+            ∙ after
+
+        pub text-origin : (x : Refusal) → r ≡ P.Refused x → stop x ≡ run stop e (writeText policy d t) k
+        text-origin x l = origin (P.Refused x) l
+
+        pub text-through : (x y : ℤ) (e′ : Entry) → r ≡ P.At x y e′ → k (said t u (record { x = x; y = y })) e′ ≡ run stop e (writeText policy d t) k
+        text-through x y e′ l = origin (P.At x y e′) l
+
+-- ---- what is ready
+
+-- the step gives w, and e′ is the entry after it
+pub record Gives (e : Entry) (m : Made SaidText) (w : SaidText) (e′ : Entry) : Type 0 where
+  pub deviations : List Deviation
+  pub is : m ≡ made w deviations
+  pub entry : e′ ≡ notedAll e deviations
+
+pub ready-stops : (e : Entry) (m : Made SaidText) (x : Refusal) → stopped x ≡ run stopped e m ready → m ≡ refused x
+unfolding run
+ready-stops e (refused y) x h = cc
+ready-stops e (made a vs) x h = let z : _≡_ {A = ℕ} 0 1 = cc in absurd (omega arith)
+
+pub ready-gives : (e : Entry) (m : Made SaidText) (w : SaidText) (e′ : Entry) → ready w e′ ≡ run stopped e m ready → Gives e m w e′
+unfolding run
+ready-gives e (refused x) w e′ h = let z : _≡_ {A = ℕ} 0 1 = cc in absurd (omega arith)
+ready-gives e (made a vs) w e′ h =
+    let f : a ≡ w = cc in
+    let g : e′ ≡ notedAll e vs = cc in
+    record { deviations = vs; is = ap (λ (z : SaidText). made z vs) f; entry = g }
+
+-- ---- lengths
+
+length-first : (r : Rec) (rs : List Rec) → length (streamBytes (r ∷ rs)) ≡ 4 + length (r .content) + length (streamBytes rs)
+unfolding streamBytes
+length-first r rs = length-append (recordBytes r) (streamBytes rs) ∙ ap (λ (n : ℕ). n + length (streamBytes rs)) (length-record r)
+
+length-said : (t : S.Text) (u : Option D.Strans) (o : Point ℤ) → length (textBytes (said t u o)) ≡ sizeOf (length (stransBytes u)) (length (t .string))
+unfolding textBytes textRecords opt streamBytes
+length-said t u o =
+    let s = stringRecord STRING (padded (t .string)) in
+    let x = xyRecord (o ∷ []) in
+    let p = bitsRecord PRESENTATION (4 * t .vertical + t .horizontal) in
+    let y = wordRecord TEXTTYPE (t .texttype) in
+    let l = wordRecord LAYER (t .layer) in
+    go (length (stransBytes u)) (length (t .string)) _ _ _ _ _ _ _ _
+    (length-padded (t .string))
+    (length-first s [])
+    (length-first x (s ∷ []))
+    (length-strans u (x ∷ s ∷ []))
+    (length-first p (stransRecords u (x ∷ s ∷ [])))
+    (length-first y (p ∷ stransRecords u (x ∷ s ∷ [])))
+    (length-first l (y ∷ p ∷ stransRecords u (x ∷ s ∷ [])))
+    (length-first (emptyRecord TEXT) (l ∷ y ∷ p ∷ stransRecords u (x ∷ s ∷ [])))
+  where
+    go : (t n q r7 r6 r5 r4 r3 r2 r1 : ℕ) → q ≡ n + n % 2 → r7 ≡ 4 + q + 0 → r6 ≡ 4 + 8 + r7 → r5 ≡ t + r6 → r4 ≡ 4 + 2 + r5 → r3 ≡ 4 + 2 + r4 → r2 ≡ 4 + 2 + r3 → r1 ≡ 4 + 0 + r2
+        → r1 ≡ sizeOf t n
+    go t n q r7 r6 r5 r4 r3 r2 r1 a b c d e f g h = omega arith
+
+module _ (b : List ℕ) (s : TextPlaces) (inside : stringEnd b (s .string) ≤ length b) where
+  -- the string is as long as its number says
+  pub string-long : length (textAt b s .string) ≡ numberAt 2 b (s .string)
+  unfolding textAt stringAt
+  string-long = simp (length-take, length-drop) (omega arith)
+
+  pub length-text-of : (t : Strans) (x y : ℤ) → length (textBytes (textOf b s t x y)) ≡ sizeOf (stransLength t) (numberAt 2 b (s .string))
+  length-text-of t x y =
+      ap (λ (w : SaidText). length (textBytes w)) (sym (said-of b s t x y))
+      ∙ length-said (textAt b s) (saidOf t) (record { x = x; y = y })
+      ∙ ap₂ sizeOf (length-strans-of t) string-long
+
+  module _ (policy : GdsRoundingPolicy) (d : Float) (w : SaidText) (y : Yields (writeText policy d (textAt b s)) w) where
+    -- what the definition gives has the length that the sheet tells
+    pub text-length : length (textBytes w) ≡ textLength b s
+    unfolding writeText textLength textAt
+    text-length =
+        let n = checked R.StringLength (checked R.LayerOrType y .then) in
+        let u = steps (n .then) in
+        let o = steps (u .then) in
+        ap (λ (v : SaidText). length (textBytes v)) (sym (made-yields (o .then)))
+        ∙ length-said (textAt b s) (u .value) (o .value)
+        ∙ ap₂ sizeOf (transform-length (s .degrees) (s .magnification) (s .reflection) (u .value) (u .first)) string-long
+
+    pub text-short : numberAt 2 b (s .string) ≤ maxStringLength
+    unfolding writeText
+    text-short =
+        let n = checked R.StringLength (checked R.LayerOrType y .then) in
+        subst (λ (k : ℕ). k ≤ maxStringLength) string-long (leb→le (length (textAt b s .string)) maxStringLength (n .passed))
+
+  module _ (policy : GdsRoundingPolicy) (d : Float) (e e′ : Entry) (t : Strans) (x y : ℤ) (g : Gives e (writeText policy d (textAt b s)) (textOf b s t x y) e′) where
+    yields : Yields (writeText policy d (textAt b s)) (textOf b s t x y)
+    yields = record { log = g .deviations; is = g .is }
+
+    pub ready-length : sizeOf (stransLength t) (numberAt 2 b (s .string)) ≡ textLength b s
+    ready-length = sym (length-text-of t x y) ∙ text-length policy d (textOf b s t x y) yields
+
+    pub ready-short : numberAt 2 b (s .string) ≤ maxStringLength
+    ready-short = text-short policy d (textOf b s t x y) yields
+
+-- ---- the records in the output
+
+last-record : (r : Rec) {n : ℕ} {d last : List ℕ} {at end : ℕ} → Recorded r n d last at end → Placed (streamBytes (r ∷ [])) n d last at end
+unfolding streamBytes
+last-record r {n} {d} {last} {at} {end} w = subst (λ (l : List ℕ). Placed l n d last at end) (sym (append-nil (recordBytes r))) w
+
+pub text-placed : (b : List ℕ) (s : TextPlaces) (t : Strans) (x y z w : ℤ) (v n : ℕ) (str : List ℕ) {d1 d2 d3 d4 d5 d6 d7 d8 : List ℕ} {a1 a2 a3 a4 a5 a6 a7 a8 : ℕ}
+    → z ≡ x → w ≡ y → v ≡ 4 * s .vertical + s .horizontal → str ≡ stringAt b (s .string) → length str ≡ n
+    → Recorded (emptyRecord TEXT) 4 d1 d2 a1 a2
+    → Recorded (wordRecord LAYER (s .layer)) 6 d2 d3 a2 a3
+    → Recorded (wordRecord TEXTTYPE (s .texttype)) 6 d3 d4 a3 a4
+    → Recorded (bitsRecord PRESENTATION v) 6 d4 d5 a4 a5
+    → Placed (stransBytes (saidOf t)) (stransLength t) d5 d6 a5 a6
+    → Recorded (xyRecord (record { x = z; y = w } ∷ [])) 12 d6 d7 a6 a7
+    → Recorded (stringRecord STRING (padded str)) (4 + (length str + length str % 2)) d7 d8 a7 a8
+    → Placed (textBytes (textOf b s t x y)) (sizeOf (stransLength t) n) d1 d8 a1 a8
+unfolding textBytes textRecords textOf opt
+text-placed b s t x y z w v n str {d1} {d2} {d3} {d4} {d5} {d6} {d7} {d8} {a1} {a2} {a3} {a4} {a5} {a6} {a7} {a8} i j f g h w1 w2 w3 w4 w5 w6 w7 =
+    let p = subst (λ (k : ℕ). Recorded (bitsRecord PRESENTATION k) 6 d4 d5 a4 a5) f w4 in
+    let q = subst (λ (k : ℤ). Recorded (xyRecord (record { x = x; y = k } ∷ [])) 12 d6 d7 a6 a7) j
+    (subst (λ (k : ℤ). Recorded (xyRecord (record { x = k; y = w } ∷ [])) 12 d6 d7 a6 a7) i w6) in
+    let r = subst (λ (l : List ℕ). Recorded (stringRecord STRING (padded l)) (4 + (n + n % 2)) d7 d8 a7 a8) g
+    (subst (λ (k : ℕ). Recorded (stringRecord STRING (padded str)) (4 + (k + k % 2)) d7 d8 a7 a8) h w7) in
+    then-rest _ _ w1 (then-rest _ _ w2 (then-rest _ _ w3 (then-rest _ _ p (then-strans (saidOf t) _ w5 (then-rest _ _ q (last-record _ r))))))
+
+-- a point as the machine reads it back
+pub same-point : (b : List ℕ) (s : TextPlaces) (t : Strans) {n : ℕ} {d d′ : List ℕ} {at to : ℕ} (x y z w : ℤ) → z ≡ x → w ≡ y
+    → Placed (textBytes (textOf b s t z w)) n d d′ at to → Placed (textBytes (textOf b s t x y)) n d d′ at to
+same-point b s t {n} {d} {d′} {at} {to} x y z w i j p =
+    subst (λ (k : ℤ). Placed (textBytes (textOf b s t x k)) n d d′ at to) j (subst (λ (k : ℤ). Placed (textBytes (textOf b s t k w)) n d d′ at to) i p)

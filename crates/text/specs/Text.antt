@@ -1,0 +1,57 @@
+-- What the code of a text answers, and the bytes of its records with their length by the sheet alone (document 01, "TEXT: LAYER, TEXTTYPE, PRESENTATION .., transform, XY, STRING"). Assumes nothing.
+use mathlib.Core.Option.{Option, some}
+use mathlib.Core.List.{List, []}
+use Prim.Native.Nat.{ℕ, _+_, _*_, _%_}
+use lib.IntN.{ℤ}
+use Rattle.refusal.specs.declared.Refusal.{Refusal}
+use Rattle.big_endian.specs.Big.{numberAt}
+use Rattle.conversion.specs.declared.Entry.{Entry}
+use Rattle.stream.specs.Strings.{padded}
+use Rattle.stream.specs.Structure as D
+use Rattle.stream.specs.Record.{streamBytes}
+use Rattle.stream.specs.Records.{textRecords}
+use Rattle.forms.specs.declared.TextPlaces.{TextPlaces}
+use Rattle.forms.specs.Place.{stringAt}
+use Rattle.transform.specs.declared.Strans.{Strans}
+use Rattle.transform.specs.Strans.{saidOf, transformLength}
+use Rattle.text.specs.declared.TextValues.{TextValues}
+use Rattle.text.specs.declared.TextValues.the-variants as X
+
+-- what the records of a text say
+abbrev pub SaidText : Type 0
+SaidText = D.Text (Option ℕ) (Option D.Strans)
+
+unfoldable pub textBytes : SaidText → List ℕ
+textBytes w = streamBytes (textRecords w [])
+
+-- ---- lengths
+
+-- TEXT of 4 bytes; LAYER, TEXTTYPE and PRESENTATION of 6 each; a transform of t; XY of 12; STRING of 4 and its n bytes, made even
+abbrev pub sizeOf : ℕ → ℕ → ℕ
+sizeOf t n = 4 + (6 + (6 + (6 + (t + (12 + (4 + (n + n % 2)))))))
+
+unfoldable pub textLength : List ℕ → TextPlaces → ℕ
+textLength b s = sizeOf (transformLength (s .degrees) (s .magnification) (s .reflection)) (numberAt 2 b (s .string))
+
+-- ---- the checks and conversions, all before the first byte
+
+-- by the places, and the values that the sheet does not hold as they are
+unfoldable pub textOf : List ℕ → TextPlaces → Strans → ℤ → ℤ → SaidText
+textOf b s t x y =
+    record {
+      layer = s .layer;
+      texttype = s .texttype;
+      presentation = some (4 * s .vertical + s .horizontal);
+      transform = saidOf t;
+      origin = record { x = x; y = y };
+      string = padded (stringAt b (s .string));
+    }
+
+-- a refusal; or what is to be written, and the entry
+pub data Ready : Type 0 where
+  stopped : Refusal → Ready
+  ready : SaidText → Entry → Ready
+
+abbrev pub readyOf : List ℕ → TextPlaces → TextValues → Ready
+readyOf b s (X.Refused x) = stopped x
+readyOf b s (X.Ready t x y e) = ready (textOf b s t x y) e

@@ -1,0 +1,190 @@
+// A text (`write_text_with_converter` of write/mod.rs), from its places in the block: its checks and conversions, and then its records.
+ghost use mathlib.Core.Path.{_≡_};
+ghost use Prim.Native.Nat.{_+_, _*_, _≤_, _<_};
+ghost use lib.ListN.{length};
+ghost use Rattle.big_endian.specs.Big.{numberAt};
+ghost use Rattle.conversion.specs.Fold.{run};
+ghost use Rattle.cell.specs.Write.{writeText};
+ghost use Rattle.forms.specs.Place.{stringEnd};
+ghost use Rattle.forms.specs.Forms.{textAt, TextIn};
+ghost use Rattle.transform.specs.Strans.{stransLength};
+ghost use Rattle.records.specs.Bytes.{Placed};
+ghost use Rattle.writing.specs.Steps.{Measures, Writes};
+ghost use Rattle.text.specs.Text.{sizeOf, textBytes, textLength, textOf, stopped, ready, readyOf};
+use conversion::Entry;
+use conversion::GdsRoundingPolicy;
+use forms::TextPlaces;
+use points::Pointed;
+use refusal::Refusal;
+use transform::Strans;
+use transform::Transform;
+use writing::Measured;
+use writing::Written;
+
+// The highest layer.
+const MAX_LAYER: u16 = 255;
+
+// The longest string of a text.
+const MAX_STRING_LENGTH: usize = 512;
+
+// The bytes of TEXT, LAYER, TEXTTYPE and PRESENTATION, then of XY and the head of STRING.
+const FRONT_LENGTH: usize = 22;
+
+const BACK_LENGTH: usize = 16;
+
+// A refusal; or the values of the records that the sheet does not hold as they are, with the entry after them.
+pub enum TextValues {
+    Refused {
+        refusal: Refusal,
+    },
+    Ready {
+        strans: Strans,
+        x: i32,
+        y: i32,
+        entry: Entry,
+    },
+}
+
+// How many bytes the string has.
+fn string_length(b: &[u8], at: usize) -> usize
+    requires { ⌜ at + 2 ≤ length (now b) ⌝ }
+    ensures { λ r. ⌜ r ≡ numberAt 2 (now (b .entry)) at ⌝ }
+{
+    big_endian::u16_at(b, at) as usize
+}
+
+// The checks and conversions in the order of `write_text_with_converter`; the text type is not limited.
+fn text_values(
+    policy: GdsRoundingPolicy,
+    d: f64,
+    b: &[u8],
+    text: TextPlaces,
+    entry: Entry,
+) -> TextValues
+    requires { ⌜ TextIn (now b) text ⌝ }
+    requires { ⌜ entry .count < 4294967294 ⌝ }
+    ensures { λ r. ⌜ readyOf (now (b .entry)) text r ≡ run stopped entry (writeText policy d (textAt (now (b .entry)) text)) ready ⌝ }
+{
+    if text.layer > MAX_LAYER {
+        return TextValues::Refused {
+            refusal: Refusal::LayerOrType,
+        };
+    }
+    if string_length(b, text.string) > MAX_STRING_LENGTH {
+        return TextValues::Refused {
+            refusal: Refusal::StringLength,
+        };
+    }
+    match transform::write_transformation(text.degrees, text.magnification, text.reflection) {
+        Transform::Refused { refusal } => TextValues::Refused { refusal },
+        Transform::Encoded { strans } => {
+            match points::convert_point(
+                policy,
+                d,
+                b,
+                text.origin,
+                conversion::ORIGIN_FIELD,
+                0,
+                entry,
+            ) {
+                Pointed::Refused { refusal: refusal2 } => TextValues::Refused { refusal: refusal2 },
+                Pointed::At { x, y, entry: e } => TextValues::Ready {
+                    strans,
+                    x,
+                    y,
+                    entry: e,
+                },
+            }
+        }
+    }
+}
+
+// The first refusal, or the length of the records.
+pub fn measure_text(
+    policy: GdsRoundingPolicy,
+    d: f64,
+    b: &[u8],
+    text: TextPlaces,
+    entry: Entry,
+) -> Measured
+    requires { ⌜ TextIn (now b) text ⌝ }
+    requires { ⌜ entry .count < 4294967294 ⌝ }
+    ensures { λ r. ⌜ Measures textBytes entry (writeText policy d (textAt (now (b .entry)) text)) r ⌝ }
+{
+    match text_values(policy, d, b, text, entry) {
+        TextValues::Refused { refusal } => Measured::Refused { refusal },
+        TextValues::Ready {
+            strans,
+            x: _,
+            y: _,
+            entry: e,
+        } => {
+            let n = string_length(b, text.string);
+            Measured::Through {
+                length: FRONT_LENGTH + transform::strans_length(strans) + BACK_LENGTH + n + n % 2,
+                entry: e,
+            }
+        }
+    }
+}
+
+// Vertical and horizontal presentation as the bits of PRESENTATION.
+fn presentation(vertical: u8, horizontal: u8) -> u16
+    ensures { λ r. ⌜ r ≡ 4 * vertical + horizontal ⌝ }
+{
+    4 * (vertical as u16) + horizontal as u16
+}
+
+// TEXT, LAYER, TEXTTYPE, PRESENTATION, the transform, XY and STRING, at a place.
+fn put_records_at(
+    out: &mut [u8],
+    at: usize,
+    b: &[u8],
+    text: TextPlaces,
+    strans: Strans,
+    x: i32,
+    y: i32,
+) -> usize
+    requires { ⌜ stringEnd (now b) (text .string) ≤ length (now b) ⌝ }
+    requires { ⌜ numberAt 2 (now b) (text .string) ≤ 512 ⌝ }
+    requires { ⌜ at + sizeOf (stransLength strans) (numberAt 2 (now b) (text .string)) ≤ length (now out) ⌝ }
+    ensures { λ r. ⌜ Placed (textBytes (textOf (now (b .entry)) text strans x y)) (sizeOf (stransLength strans) (numberAt 2 (now (b .entry)) (text .string))) (now (out .entry)) (now (out .exit)) at r ⌝ }
+{
+    let bits = presentation(text.vertical, text.horizontal);
+    let a1 = records::put_empty_at(out, at, records::TEXT);
+    let a2 = records::put_word_at(out, a1, records::LAYER, records::TWO_BYTE, text.layer);
+    let a3 = records::put_word_at(out, a2, records::TEXTTYPE, records::TWO_BYTE, text.texttype);
+    let a4 = records::put_word_at(out, a3, records::PRESENTATION, records::BIT_ARRAY, bits);
+    let a5 = transform::put_strans_at(out, a4, strans);
+    let a6 = transform::put_origin_at(out, a5, x, y);
+    records::put_string_at(out, a6, records::STRING, forms::string_at(b, text.string))
+}
+
+// The records from a place of the output on; nothing is written where the text is refused.
+pub fn put_text(
+    policy: GdsRoundingPolicy,
+    d: f64,
+    b: &[u8],
+    text: TextPlaces,
+    out: &mut [u8],
+    start: usize,
+    entry: Entry,
+) -> Written
+    requires { ⌜ TextIn (now b) text ⌝ }
+    requires { ⌜ entry .count < 4294967294 ⌝ }
+    requires { ⌜ start + textLength (now b) text ≤ length (now out) ⌝ }
+    ensures { λ r. ⌜ Writes textBytes entry (writeText policy d (textAt (now (b .entry)) text)) start (now (out .entry)) (now (out .exit)) r ⌝ }
+{
+    match text_values(policy, d, b, text, entry) {
+        TextValues::Refused { refusal } => Written::Refused { refusal },
+        TextValues::Ready {
+            strans,
+            x,
+            y,
+            entry: e,
+        } => Written::Through {
+            to: put_records_at(out, start, b, text, strans, x, y),
+            entry: e,
+        },
+    }
+}

@@ -1,0 +1,3 @@
+-- Laws that this crate's proofs cite.
+pub mod NameLaws
+pub mod StampLaws

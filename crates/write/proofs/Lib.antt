@@ -1,0 +1,2 @@
+-- Laws of the walks over the blocks.
+pub mod WalkLaws

@@ -1,0 +1,2 @@
+-- What measuring and writing promise of blocks in turn.
+pub mod Walk

@@ -1,0 +1,2 @@
+-- What measuring and writing promise of a step of the definitions.
+pub mod Steps
