@@ -32,7 +32,7 @@ use Rattle.writing.specs.declared.Measured.the-variants as M
 use Rattle.writing.specs.Steps.{sizing}
 use Rattle.write.specs.declared.Totals.{Totals}
 use Rattle.write.specs.declared.Totals.the-variants as T
-use Rattle.write.specs.Walk.{measuredBlock, Accepted, totalsFrom}
+use Rattle.write.specs.Walk.{measuredBlock, totalsFrom}
 
 -- ---- what a block is
 

@@ -1,2 +1,2 @@
--- What measuring and writing promise of blocks in turn.
+-- What measuring answers for blocks in turn.
 pub mod Walk
