@@ -25,7 +25,7 @@ unfolding tailRecords
 tail-append [] a b = refl
 tail-append (q ∷ qs) a b = simp (tail-append qs)
 
-body-append : (w : SaidBody) (a b : List Rec) → bodyRecords w a ++ b ≡ bodyRecords w (a ++ b)
+pub body-append : (w : SaidBody) (a b : List Rec) → bodyRecords w a ++ b ≡ bodyRecords w (a ++ b)
 unfolding shapeRecords pathRecords textRecords srefRecords arefRecords
 body-append (S.boundary e) a b = refl
 body-append (S.path e) a b = simp opt-append

@@ -1,24 +1,21 @@
 -- A turn of the measuring walk and of the writing walk over the blocks. Assumes nothing.
-use mathlib.Core.Path.{_≡_, refl, sym, ap, ap₂, _∙_, subst}
-use mathlib.Core.Bool.{cond}
-use mathlib.Core.Option.{Option, none, some}
-use mathlib.Core.List.{List, [], _∷_, _++_, append-assoc}
+use mathlib.Core.Path.{_≡_, refl, sym, ap, ap₂, _∙_}
+use mathlib.Core.Option.{some}
+use mathlib.Core.List.{List, [], _∷_, _++_}
 use Prim.Native.Nat.{ℕ, suc, _+_}
 use native.Mathlib.Nat.{zero-add}
 use native.Mathlib.Omega.{arith}
-use lib.Dec.{eqb}
 use lib.ListN.{length, length-append}
-use lib.Ieee.{Float, lt}
+use lib.Ieee.{Float}
 use Rattle.refusal.specs.declared.Refusal.{Refusal}
-use Rattle.refusal.specs.declared.Refusal.the-variants as R
 use Rattle.conversion.specs.declared.GdsRoundingPolicy.{GdsRoundingPolicy}
 use Rattle.conversion.specs.declared.Deviation.{Deviation}
 use Rattle.conversion.specs.declared.Entry.{Entry}
 use Rattle.big_endian.specs.Buffer.{WroteAt, splice}
 use Rattle.big_endian.proofs.BufferLaws.{at-turn, at-end, length-at}
 use Rattle.conversion.specs.Entry.{entryOf, reportBytes, greatestFrom}
-use Rattle.conversion.specs.Made.{Made, refused, made}
-use Rattle.conversion.specs.Fold.{blankEntry, notedAll, standing, run}
+use Rattle.conversion.specs.Made.{made}
+use Rattle.conversion.specs.Fold.{blankEntry, notedAll, standing}
 use Rattle.conversion.proofs.FoldLaws.{entry-stands}
 use Rattle.conversion.proofs.EntryLaws.{report-append, greatest-append}
 use Rattle.sheet.specs.Element.{Element, kindOf, elementOf}
@@ -29,34 +26,10 @@ use Rattle.cell.specs.Cell.{Result, stopped, written, inFront, writeBlocks}
 use Rattle.cell.proofs.WalkLaws.{walk-ill, walk-refused, walk-made}
 use Rattle.writing.specs.declared.Measured.{Measured}
 use Rattle.writing.specs.declared.Measured.the-variants as M
-use Rattle.writing.specs.Steps.{sizing}
-use Rattle.write.specs.declared.Totals.{Totals}
 use Rattle.write.specs.declared.Totals.the-variants as T
-use Rattle.write.specs.Walk.{measuredBlock, totalsFrom}
-
--- ---- what a block is
-
--- ill-formed, refused or written, with what its measuring answers
-pub data Met (policy : GdsRoundingPolicy) (d : Float) (i : ℕ) (b : List ℕ) : Measured → Type 0 where
-  ill : elementOf b ≡ none → Met policy d i b (M.Refused R.Form)
-  refusing : (e : Element) (r : Refusal) → elementOf b ≡ some e → writeElement policy d e ≡ refused r → Met policy d i b (M.Refused r)
-  writing : (e : Element) (w : Said) (vs : List Deviation) → elementOf b ≡ some e → writeElement policy d e ≡ made w vs
-      → Met policy d i b (M.Through (length (elementBytes w)) (notedAll (blankEntry i (kindOf (e .body))) vs))
-
-module _ (policy : GdsRoundingPolicy) (d : Float) (i : ℕ) (b : List ℕ) where
-  by-step : (e : Element) → elementOf b ≡ some e → (m : Made Said) → writeElement policy d e ≡ m
-      → Met policy d i b (run M.Refused (blankEntry i (kindOf (e .body))) m (sizing elementBytes))
-  unfolding run sizing
-  by-step e h (refused r) k = refusing e r h k
-  by-step e h (made w vs) k = writing e w vs h k
-
-  by-form : (x : Option Element) → elementOf b ≡ x → Met policy d i b (measuredBlock policy d i x)
-  unfolding measuredBlock
-  by-form none h = ill h
-  by-form (some e) h = by-step e h (writeElement policy d e) refl
-
-  pub met : Met policy d i b (measuredBlock policy d i (elementOf b))
-  met = by-form (elementOf b) refl
+use Rattle.elements.specs.Block.{measuredBlock}
+use Rattle.elements.proofs.BlockLaws.{Met, ill, refusing, writing, met}
+use Rattle.write.specs.Walk.{totalsFrom}
 
 -- ---- measuring
 

@@ -1,2 +1,3 @@
--- What measuring answers for blocks in turn.
+-- What measuring answers for blocks in turn, and what writing a cell promises.
 pub mod Walk
+pub mod Writer

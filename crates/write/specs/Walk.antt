@@ -1,33 +1,90 @@
--- What measuring answers for one block and for blocks in turn, by the definition of writing (cell/specs/Cell). Assumes nothing.
+-- The head and the blocks in turn, measured and written, by the definition of writing a cell (cell/specs/Cell). Assumes nothing.
+use mathlib.Core.Path.{_≡_}
+use mathlib.Core.Bool.{Bool, true, false}
 use mathlib.Core.Option.{Option, none, some}
-use mathlib.Core.List.{List}
-use Prim.Native.Nat.{ℕ, _+_}
+use mathlib.Core.List.{List, _++_}
+use Prim.Native.Nat.{ℕ, _+_, _*_, _≤_}
 use lib.ListN.{length}
 use lib.Ieee.{Float}
 use Rattle.refusal.specs.declared.Refusal.the-variants as R
 use Rattle.conversion.specs.declared.GdsRoundingPolicy.{GdsRoundingPolicy}
-use Rattle.conversion.specs.Entry.{greatestFrom}
-use Rattle.conversion.specs.Fold.{blankEntry, run}
-use Rattle.sheet.specs.Element.{Element, kindOf}
-use Rattle.stream.specs.Structure.{Said}
-use Rattle.stream.specs.Records.{elementBytes, elementsBytes}
-use Rattle.cell.specs.Write.{writeElement}
-use Rattle.cell.specs.Cell.{Result, stopped, written}
-use Rattle.writing.specs.declared.Measured.{Measured}
-use Rattle.writing.specs.declared.Measured.the-variants as M
-use Rattle.writing.specs.Steps.{sizing}
+use Rattle.conversion.specs.declared.Entry.{Entry}
+use Rattle.conversion.specs.Entry.{greatestFrom, reportBytes}
+use Rattle.big_endian.specs.Buffer.{splice, WroteAt}
+use Rattle.sheet.specs.Element.{Head}
+use Rattle.sheet.specs.Blocks.{maxPairs}
+use Rattle.sheet.specs.Cell.{elementBlocks}
+use Rattle.stream.specs.Strings.{padded}
+use Rattle.stream.specs.Structure.{Said, Structure}
+use Rattle.stream.specs.Record.{STRNAME, recordBytes}
+use Rattle.stream.specs.Records.{elementsBytes, stampsRecord, stringRecord}
+use Rattle.cell.specs.Limits.{maxSheetLength}
+use Rattle.cell.specs.Stamps.{stampsFit}
+use Rattle.cell.specs.Names.{isName}
+use Rattle.cell.specs.Cell.{Result, stopped, written, writeBlocks, writeSheet, structureBytes, entryLength}
+use Rattle.write.specs.declared.HeadMeasured.{HeadMeasured}
+use Rattle.write.specs.declared.HeadMeasured.the-variants as H
 use Rattle.write.specs.declared.Totals.{Totals}
 use Rattle.write.specs.declared.Totals.the-variants as T
 
--- ---- one block
+-- ---- the head
 
--- the element of index i that a block holds: "form first", then its own refusals, or the length of its bytes and its entry
-unfoldable pub measuredBlock : GdsRoundingPolicy → Float → ℕ → Option Element → Measured
-measuredBlock policy d i none = M.Refused R.Form
-measuredBlock policy d i (some e) = run M.Refused (blankEntry i (kindOf (e .body))) (writeElement policy d e) (sizing elementBytes)
+-- BGNSTR and STRNAME
+unfoldable pub headBytes : Head → List ℕ
+headBytes h = recordBytes (stampsRecord (h .stamps)) ++ recordBytes (stringRecord STRNAME (padded (h .name)))
 
--- ---- blocks in turn, after n bytes, k entries and a greatest error g
+-- "form first, then in the head 6 before 7"; then how many bytes its records have
+abbrev pub headMeasured : Option Head → HeadMeasured
+headMeasured none = H.Refused R.Form
+headMeasured (some h) = byStamps (stampsFit (h .stamps))
+  where
+    byName : Bool → HeadMeasured
+    byName false = H.Refused R.Name
+    byName true = H.Through (length (headBytes h))
 
+    byStamps : Bool → HeadMeasured
+    byStamps false = H.Refused R.Stamp
+    byStamps true = byName (isName (h .name))
+
+-- a name has at most 32 bytes: sums with it fit
+abbrev pub HeadSmall : HeadMeasured → Type 0
+HeadSmall (H.Refused r) = Unit {0}
+HeadSmall (H.Through length) = length ≤ 64
+
+-- ---- blocks in turn
+
+-- after n bytes, k entries and a greatest error g
 unfoldable pub totalsFrom : ℕ → ℕ → Float → Result (List Said) → Totals
 totalsFrom n k g (stopped r b) = T.Refused r b
 totalsFrom n k g (written ws es) = T.Through (n + length (elementsBytes ws)) (k + length es) (greatestFrom g es)
+
+-- at most 16,384 blocks, of which none is longer than the longest sheet: sums with it fit
+abbrev pub TotalsSmall : Totals → Type 0
+TotalsSmall (T.Refused r b) = Unit {0}
+TotalsSmall (T.Through length entries greatest) = length ≤ maxPairs * (84 + 4 * maxSheetLength)
+
+-- no check refuses an element, and there is room for what is written: the elements' bytes from a place of the output on, and the entries
+pub record ElementsFit (policy : GdsRoundingPolicy) (d : Float) (sheet : List ℕ) (start out report : ℕ) : Type 0 where
+  pub elements : List Said
+  pub entries : List Entry
+  pub writes : writeBlocks policy d 0 (elementBlocks sheet) ≡ written elements entries
+  pub out-room : start + length (elementsBytes elements) ≤ out
+  pub report-room : entryLength * length entries ≤ report
+
+-- then all of them are written, and nothing else
+pub record PutsElements (policy : GdsRoundingPolicy) (d : Float) (sheet : List ℕ) (start : ℕ) (out report out′ report′ : List ℕ) (r : ℕ) : Type 0 where
+  pub output : (ws : List Said) (es : List Entry) → writeBlocks policy d 0 (elementBlocks sheet) ≡ written ws es → WroteAt (elementsBytes ws) out out′ start r
+  pub entries : (ws : List Said) (es : List Entry) → writeBlocks policy d 0 (elementBlocks sheet) ≡ written ws es → report′ ≡ splice 0 (reportBytes es) report
+
+-- ---- the structure
+
+pub record StructureFits (policy : GdsRoundingPolicy) (d : Float) (sheet : List ℕ) (out report : ℕ) : Type 0 where
+  pub structure : Structure
+  pub entries : List Entry
+  pub writes : writeSheet policy d sheet ≡ written structure entries
+  pub out-room : length (structureBytes structure) ≤ out
+  pub report-room : entryLength * length entries ≤ report
+
+pub record PutsStructure (policy : GdsRoundingPolicy) (d : Float) (sheet out report out′ report′ : List ℕ) : Type 0 where
+  pub output : (s : Structure) (es : List Entry) → writeSheet policy d sheet ≡ written s es → out′ ≡ splice 0 (structureBytes s) out
+  pub entries : (s : Structure) (es : List Entry) → writeSheet policy d sheet ≡ written s es → report′ ≡ splice 0 (reportBytes es) report

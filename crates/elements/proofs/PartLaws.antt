@@ -1,0 +1,108 @@
+-- An element's parts measured in turn: its body, then its properties. Assumes nothing.
+use mathlib.Core.Path.{_≡_, refl, sym, ap, _∙_}
+use mathlib.Core.List.{List}
+use Prim.Native.Nat.{ℕ, _+_, _*_, _≤_}
+use native.Mathlib.Omega.{arith}
+use lib.ListN.{length}
+use lib.Ieee.{Float}
+use Rattle.refusal.specs.declared.Refusal.{Refusal}
+use Rattle.refusal.specs.declared.Refusal.the-variants as R
+use Rattle.conversion.specs.declared.Deviation.{Deviation}
+use Rattle.conversion.specs.declared.GdsRoundingPolicy.{GdsRoundingPolicy}
+use Rattle.conversion.specs.declared.Entry.{Entry}
+use Rattle.conversion.specs.Made.{Made, refused, made}
+use Rattle.conversion.specs.Fold.{blankEntry, run}
+use Rattle.sheet.specs.Element.{kindOf, elementOf}
+use Rattle.stream.specs.Structure.{Property, SaidBody, Said}
+use Rattle.stream.specs.Records.{elementBytes}
+use Rattle.cell.specs.Write.{writeBody, writeProperties, writeElement}
+use Rattle.writing.specs.declared.Measured.{Measured}
+use Rattle.writing.specs.declared.Measured.the-variants as M
+use Rattle.writing.specs.Steps.{sizing, Measures}
+use Rattle.writing.proofs.StepLaws.{measure-first-refused, measure-second-refused, measure-both}
+use Rattle.forms.specs.declared.BodyPlaces.{BodyPlaces}
+use Rattle.forms.specs.declared.PropertyPlaces.{PropertyPlaces}
+use Rattle.forms.specs.declared.ElementForm.{ElementForm}
+use Rattle.forms.specs.declared.ElementForm.the-variants as E
+use Rattle.forms.specs.Place.{placeFrom, propertyEnd}
+use Rattle.forms.specs.Forms.{bodyAt, propertiesAt, ElementIn}
+use Rattle.forms.specs.Checks.{ElementRead}
+use Rattle.forms.proofs.ElementLaws.{element-as}
+use Rattle.properties.specs.Tail.{tailBytes}
+use Rattle.elements.specs.Block.{bodyBytes, measuredBlock}
+use Rattle.elements.proofs.LengthLaws.{body-length, body-short, tail-length, tail-short}
+use Rattle.elements.proofs.SplitLaws.{element-split}
+
+-- ---- what was measured, where it was not refused
+
+pub record Through {A : Type 0} (bytes : A → List ℕ) (m : Made A) (n : ℕ) : Type 0 where
+  pub value : A
+  pub deviations : List Deviation
+  pub makes : m ≡ made value deviations
+  pub size : n ≡ length (bytes value)
+
+pub through : {A : Type 0} (bytes : A → List ℕ) (e : Entry) (m : Made A) (r : Measured) (n : ℕ) (e′ : Entry)
+    → Measures bytes e m r → r ≡ M.Through n e′ → Through bytes m n
+unfolding run sizing
+through bytes e (refused x) r n e′ h g = let z : _≡_ {A = ℕ} 0 1 = cc in absurd (omega arith)
+through bytes e (made a vs) r n e′ h g = record { value = a; deviations = vs; makes = refl; size = cc }
+
+-- ---- both parts
+
+module _ (policy : GdsRoundingPolicy) (d : Float) (b : List ℕ) (s : BodyPlaces) (q : PropertyPlaces) (e : Entry) where
+  abbrev body : Made SaidBody
+  body = writeBody policy d (bodyAt b s)
+
+  abbrev properties : Made (List Property)
+  properties = writeProperties (propertiesAt b q)
+
+  -- r is what measuring the whole element answers
+  abbrev Answers : Measured → Type 0
+  Answers r = Measures elementBytes e (writeElement policy d (record { body = bodyAt b s; properties = propertiesAt b q })) r
+
+  abbrev join : SaidBody → List Property → Said
+  join w qs = record { body = w; properties = qs }
+
+  module _ (r : Measured) (h : Measures bodyBytes e body r) where
+    pub body-refused : (x : Refusal) → r ≡ M.Refused x → Answers (M.Refused x)
+    unfolding writeElement
+    body-refused x g = measure-first-refused bodyBytes tailBytes elementBytes join element-split e body properties r x h g
+
+    module _ (n : ℕ) (e′ : Entry) (g : r ≡ M.Through n e′) (t : Measured) (i : Measures tailBytes e′ properties t) where
+      pub tail-refused : (x : Refusal) → t ≡ M.Refused x → Answers (M.Refused x)
+      unfolding writeElement
+      tail-refused x j = measure-second-refused bodyBytes tailBytes elementBytes join element-split e body properties r n e′ h g t i x j
+
+      pub both-measured : (m : ℕ) (e″ : Entry) → t ≡ M.Through m e″ → Answers (M.Through (n + m) e″)
+      unfolding writeElement
+      both-measured m e″ j = measure-both bodyBytes tailBytes elementBytes join element-split e body properties r n e′ h g t i m e″ j
+
+      -- little more than what four such blocks take
+      pub both-small : ElementIn b s q → (m : ℕ) (e″ : Entry) → t ≡ M.Through m e″ → n + m ≤ 84 + 4 * length b
+      both-small k m e″ j =
+          let end : placeFrom propertyEnd (q .count) b (q .place) ≤ length b = let z = k .properties-in .last-in in omega arith in
+          let u = through bodyBytes e body r n e′ h g in
+          let v = through tailBytes e′ properties t m e″ i j in
+          let w = u .size ∙ body-length policy d b s (u .value) (u .deviations) (k .body-in) (u .makes) in
+          let x = v .size ∙ tail-length (q .count) b (q .place) (v .value) (v .deviations) end (v .makes) in
+          let y = body-short b s (k .body-in) in
+          let z = tail-short (q .count) b (q .place) end in
+          omega arith
+
+-- ---- the block
+
+module _ (policy : GdsRoundingPolicy) (d : Float) (i : ℕ) (b : List ℕ) where
+  pub block-ill : {r : ElementForm} → ElementRead b r → r ≡ E.Ill → M.Refused R.Form ≡ measuredBlock policy d i (elementOf b)
+  unfolding measuredBlock
+  block-ill w g = ap (measuredBlock policy d i) (sym (element-as w g .form))
+
+  -- with the entry that measuring starts from
+  pub block-measured : {r : ElementForm} {s : BodyPlaces} {q : PropertyPlaces} → ElementRead b r → r ≡ E.Element s q
+      → (k : ℕ) (e : Entry) → k ≡ kindOf (bodyAt b s) → e ≡ blankEntry i k → (t : Measured)
+      → Measures elementBytes e (writeElement policy d (record { body = bodyAt b s; properties = propertiesAt b q })) t
+      → t ≡ measuredBlock policy d i (elementOf b)
+  unfolding measuredBlock
+  block-measured {r} {s} {q} w g k e f h t j =
+      j
+      ∙ ap (λ (x : Entry). run M.Refused x (writeElement policy d (record { body = bodyAt b s; properties = propertiesAt b q })) (sizing elementBytes)) (h ∙ ap (blankEntry i) f)
+      ∙ ap (measuredBlock policy d i) (sym (element-as w g .form))

@@ -1,0 +1,142 @@
+-- `put_body` meets its contract: each kind's function writes the body's bytes. Assumes nothing.
+use native.Mathlib.Omega.{arith}
+use borrow.Author.Needs.{needs}
+use Rattle.elements.specs.Block.{bodyLength}
+use Rattle.elements.proofs.PutLaws.{put-polygon, put-path, put-text, put-node, put-reference, room-of}
+use Rattle.elements.proofs.put_body.Statement.{statement}
+use Rattle.elements.proofs.put_body.Tie as tie
+
+enum-known-body : tie.Need-enum-known-body
+enum-known-body c = search needs
+
+put-polygon-requires : tie.Need-put-polygon-requires
+unfolding bodyLength
+put-polygon-requires c κs =
+    let p = c .before .before .before .before .before .before .pre in
+    let g = c .before .before .body .given in
+    let r = room-of (g .1) (p .0) (p .1 .1) in
+    let n = p .1 .0 in
+    (r .inside, (r .fits, omega arith))
+
+enum-known-body-2 : tie.Need-enum-known-body-2
+enum-known-body-2 c = search needs
+
+put-path-requires : tie.Need-put-path-requires
+unfolding bodyLength
+put-path-requires c κs =
+    let p = c .before .before .before .before .before .before .pre in
+    let g = c .before .before .body2 .given in
+    let r = room-of (g .1) (p .0) (p .1 .1) in
+    let n = p .1 .0 in
+    (r .inside, (omega arith, r .fits))
+
+enum-known-body-3 : tie.Need-enum-known-body-3
+enum-known-body-3 c = search needs
+
+put-text-requires : tie.Need-put-text-requires
+unfolding bodyLength
+put-text-requires c κs =
+    let p = c .before .before .before .before .before .before .pre in
+    let g = c .before .before .body3 .given in
+    let r = room-of (g .1) (p .0) (p .1 .1) in
+    let n = p .1 .0 in
+    (r .inside, (omega arith, r .fits))
+
+enum-known-body-4 : tie.Need-enum-known-body-4
+enum-known-body-4 c = search needs
+
+put-node-requires : tie.Need-put-node-requires
+unfolding bodyLength
+put-node-requires c κs =
+    let p = c .before .before .before .before .before .before .pre in
+    let g = c .before .before .body4 .given in
+    let r = room-of (g .1) (p .0) (p .1 .1) in
+    let n = p .1 .0 in
+    (r .inside, (r .fits, omega arith))
+
+enum-known-body-5 : tie.Need-enum-known-body-5
+enum-known-body-5 c = search needs
+
+put-reference-requires : tie.Need-put-reference-requires
+unfolding bodyLength
+put-reference-requires c κs =
+    let p = c .before .before .before .before .before .before .pre in
+    let g = c .before .before .body5 .given in
+    let r = room-of (g .1) (p .0) (p .1 .1) in
+    let n = p .1 .0 in
+    (r .inside, (omega arith, r .fits))
+
+same-length : tie.Need-same-length
+same-length c = search needs
+
+returns : tie.Need-returns
+returns c =
+    let a = c .before .before .before .before .before .before .before .before .before .args in
+    let g = c .before .before .before .before .before .body .given in
+    let r = c .before .before .put-polygon in
+    put-polygon (a .policy) (a .d) (a .b .now) (a .entry) (a .part .now) (r .last .1 .1 .1 .1 .0) (r .result) (g .0 .0) (g .1) (r .ensures)
+
+same-length-2 : tie.Need-same-length-2
+same-length-2 c = search needs
+
+returns-2 : tie.Need-returns-2
+returns-2 c =
+    let a = c .before .before .before .before .before .before .before .before .before .args in
+    let g = c .before .before .before .before .before .body2 .given in
+    let r = c .before .before .put-path in
+    put-path (a .policy) (a .d) (a .b .now) (a .entry) (a .part .now) (r .last .1 .1 .1 .1 .0) (r .result) (g .0 .0) (g .1) (r .ensures)
+
+same-length-3 : tie.Need-same-length-3
+same-length-3 c = search needs
+
+returns-3 : tie.Need-returns-3
+returns-3 c =
+    let a = c .before .before .before .before .before .before .before .before .before .args in
+    let g = c .before .before .before .before .before .body3 .given in
+    let r = c .before .before .put-text in
+    put-text (a .policy) (a .d) (a .b .now) (a .entry) (a .part .now) (r .last .1 .1 .1 .1 .0) (r .result) (g .0 .0) (g .1) (r .ensures)
+
+same-length-4 : tie.Need-same-length-4
+same-length-4 c = search needs
+
+returns-4 : tie.Need-returns-4
+returns-4 c =
+    let a = c .before .before .before .before .before .before .before .before .before .args in
+    let g = c .before .before .before .before .before .body4 .given in
+    let r = c .before .before .put-node in
+    put-node (a .policy) (a .d) (a .b .now) (a .entry) (a .part .now) (r .last .1 .1 .1 .1 .0) (r .result) (g .0 .0) (g .1) (r .ensures)
+
+same-length-5 : tie.Need-same-length-5
+same-length-5 c = search needs
+
+returns-5 : tie.Need-returns-5
+returns-5 c =
+    let a = c .before .before .before .before .before .before .before .before .before .args in
+    let g = c .before .before .before .before .before .body5 .given in
+    let r = c .before .before .put-reference in
+    put-reference (a .policy) (a .d) (a .b .now) (a .entry) (a .part .now) (r .last .1 .1 .1 .1 .0) (r .result) (g .0 .0) (g .1) (r .ensures)
+
+pub put-body-spec : {M : Type 1} → statement M
+put-body-spec =
+    tie.close
+    (tie.spec
+    enum-known-body
+    put-polygon-requires
+    enum-known-body-2
+    put-path-requires
+    enum-known-body-3
+    put-text-requires
+    enum-known-body-4
+    put-node-requires
+    enum-known-body-5
+    put-reference-requires
+    same-length
+    returns
+    same-length-2
+    returns-2
+    same-length-3
+    returns-3
+    same-length-4
+    returns-4
+    same-length-5
+    returns-5)

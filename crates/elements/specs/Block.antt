@@ -1,0 +1,60 @@
+-- One block of the sheet measured and written, by the definition of writing an element (cell/specs/Write). Assumes nothing.
+use mathlib.Core.Option.{Option, none, some}
+use mathlib.Core.List.{List, []}
+use Prim.Native.Nat.{ℕ, _+_, _*_, _≤_}
+use lib.ListN.{length}
+use lib.Ieee.{Float}
+use Rattle.refusal.specs.declared.Refusal.the-variants as R
+use Rattle.conversion.specs.declared.GdsRoundingPolicy.{GdsRoundingPolicy}
+use Rattle.conversion.specs.Fold.{blankEntry, run}
+use Rattle.sheet.specs.Element.{Element, kindOf}
+use Rattle.stream.specs.Structure.{SaidBody}
+use Rattle.stream.specs.Record.{streamBytes}
+use Rattle.stream.specs.Records.{bodyRecords, elementBytes}
+use Rattle.cell.specs.Write.{writeElement}
+use Rattle.cell.specs.Order.{Accepted}
+use Rattle.writing.specs.declared.Measured.{Measured}
+use Rattle.writing.specs.declared.Measured.the-variants as M
+use Rattle.writing.specs.Steps.{sizing, Outcome, stopped, putting}
+use Rattle.forms.specs.declared.BodyPlaces.{BodyPlaces}
+use Rattle.forms.specs.declared.BodyPlaces.the-variants as B
+use Rattle.forms.specs.Forms.{pathAt}
+use Rattle.shape.specs.Shape.{shapeLength}
+use Rattle.path.specs.Length.{pathLength}
+use Rattle.text.specs.Text.{textLength}
+use Rattle.reference.specs.Reference.{referenceLength}
+
+-- ---- an element's bytes before its properties
+
+unfoldable pub bodyBytes : SaidBody → List ℕ
+bodyBytes w = streamBytes (bodyRecords w [])
+
+-- their length, by the block alone
+unfoldable pub bodyLength : List ℕ → BodyPlaces → ℕ
+bodyLength b (B.Polygon s) = shapeLength (s .count)
+bodyLength b (B.Path s) = pathLength (pathAt b s)
+bodyLength b (B.Text s) = textLength b s
+bodyLength b (B.Node s) = shapeLength (s .count)
+bodyLength b (B.Reference s) = referenceLength b s
+
+-- ---- the element of index i that a block holds: "form first", then its own refusals
+
+-- the length of its bytes and its entry
+unfoldable pub measuredBlock : GdsRoundingPolicy → Float → ℕ → Option Element → Measured
+measuredBlock policy d i none = M.Refused R.Form
+measuredBlock policy d i (some e) = run M.Refused (blankEntry i (kindOf (e .body))) (writeElement policy d e) (sizing elementBytes)
+
+-- what is measured is short: the lengths of a sheet's blocks have a sum that a word holds
+abbrev pub Short : ℕ → Measured → Type 0
+Short n (M.Refused r) = Unit {0}
+Short n (M.Through length e) = length ≤ 84 + 4 * n
+
+-- its bytes at the start of the part of the output that it is lent, and its entry
+unfoldable pub writtenBlock : GdsRoundingPolicy → Float → ℕ → List ℕ → Option Element → Outcome
+writtenBlock policy d i before none = stopped R.Form
+writtenBlock policy d i before (some e) = run stopped (blankEntry i (kindOf (e .body))) (writeElement policy d e) (putting elementBytes 0 before)
+
+-- no check refuses the block's element, and n bytes hold its own
+pub record Fits (policy : GdsRoundingPolicy) (d : Float) (b : List ℕ) (n : ℕ) : Type 0 where
+  pub accepted : Accepted policy d b
+  pub room : length (elementBytes (accepted .said)) ≤ n

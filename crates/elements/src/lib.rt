@@ -1,0 +1,192 @@
+// One element: a block of the sheet measured, and written (`write_element_with_field_prefix` of write/mod.rs).
+use conversion::Entry;
+use conversion::GdsRoundingPolicy;
+use forms::BodyPlaces;
+use forms::ElementForm;
+use forms::PropertyPlaces;
+use refusal::Refusal;
+use writing::Measured;
+use writing::Written;
+ghost use mathlib.Core.Path.{_≡_};
+ghost use Prim.Native.Nat.{_≤_};
+ghost use lib.ListN.{length};
+ghost use Rattle.sheet.specs.Element.{kindOf, elementOf};
+ghost use Rattle.stream.specs.Records.{elementBytes};
+ghost use Rattle.cell.specs.Write.{writeBody, writeElement};
+ghost use Rattle.forms.specs.Forms.{bodyAt, propertiesAt, BodyIn, ElementIn};
+ghost use Rattle.writing.specs.Steps.{Measures, Writes, Owes};
+ghost use Rattle.elements.specs.Block.{bodyBytes, bodyLength, measuredBlock, Short, writtenBlock, Fits};
+
+// The kinds of the report's entries.
+const POLYGON: u8 = 1;
+
+const PATH: u8 = 2;
+
+const TEXT: u8 = 3;
+
+const NODE: u8 = 4;
+
+const REFERENCE: u8 = 5;
+
+// The kind of an element in its report entry.
+fn kind_of(b: &[u8], body: BodyPlaces) -> u8
+    ensures { λ r. ⌜ r ≡ kindOf (bodyAt (now (b .entry)) body) ⌝ }
+{
+    match body {
+        BodyPlaces::Polygon { shape: _ } => POLYGON,
+        BodyPlaces::Path { path: _ } => PATH,
+        BodyPlaces::Text { text: _ } => TEXT,
+        BodyPlaces::Node { shape: _ } => NODE,
+        BodyPlaces::Reference { reference: _ } => REFERENCE,
+    }
+}
+
+// ---- measuring
+
+// All but the properties, by the kind.
+fn measure_body(
+    policy: GdsRoundingPolicy,
+    d: f64,
+    b: &[u8],
+    body: BodyPlaces,
+    entry: Entry,
+) -> Measured
+    requires { ⌜ BodyIn (now b) body ⌝ }
+    requires { ⌜ entry .count ≤ 13 ⌝ }
+    ensures { λ r. ⌜ Measures bodyBytes entry (writeBody policy d (bodyAt (now (b .entry)) body)) r ⌝ }
+{
+    match body {
+        BodyPlaces::Polygon { shape } => shape::measure_polygon(policy, d, b, shape, entry),
+        BodyPlaces::Path { path } => path::measure_path(policy, d, b, path, entry),
+        BodyPlaces::Text { text } => text::measure_text(policy, d, b, text, entry),
+        BodyPlaces::Node { shape: node } => shape::measure_node(policy, d, b, node, entry),
+        BodyPlaces::Reference { reference } => reference::measure_reference(
+            policy,
+            d,
+            b,
+            reference,
+            entry,
+        ),
+    }
+}
+
+// Its body, then its properties.
+fn measure_parts(
+    policy: GdsRoundingPolicy,
+    d: f64,
+    b: &[u8],
+    body: BodyPlaces,
+    properties: PropertyPlaces,
+    entry: Entry,
+) -> Measured
+    requires { ⌜ length (now b) ≤ 16777216 ⌝ }
+    requires { ⌜ ElementIn (now b) body properties ⌝ }
+    requires { ⌜ entry .count ≤ 13 ⌝ }
+    ensures { λ r. ⌜ Measures elementBytes entry (writeElement policy d (record { body = bodyAt (now (b .entry)) body; properties = propertiesAt (now (b .entry)) properties })) r ⌝ }
+    ensures { λ r. ⌜ Short (length (now (b .entry))) r ⌝ }
+{
+    match measure_body(policy, d, b, body, entry) {
+        Measured::Refused { refusal } => Measured::Refused { refusal },
+        Measured::Through { length, entry: e } => match properties::measure_tail(
+            b,
+            properties.place,
+            properties.count,
+            e,
+        ) {
+            Measured::Refused { refusal: refusal2 } => Measured::Refused { refusal: refusal2 },
+            Measured::Through {
+                length: more,
+                entry: e2,
+            } => Measured::Through {
+                length: length + more,
+                entry: e2,
+            },
+        },
+    }
+}
+
+// The block's form first.
+pub fn measure_element(policy: GdsRoundingPolicy, d: f64, b: &[u8], index: u32) -> Measured
+    requires { ⌜ length (now b) ≤ 16777216 ⌝ }
+    ensures { λ r. ⌜ r ≡ measuredBlock policy d index (elementOf (now (b .entry))) ⌝ }
+    ensures { λ r. ⌜ Short (length (now (b .entry))) r ⌝ }
+{
+    match forms::element(b) {
+        ElementForm::Ill => Measured::Refused {
+            refusal: Refusal::Form,
+        },
+        ElementForm::Element { body, properties } => measure_parts(
+            policy,
+            d,
+            b,
+            body,
+            properties,
+            Entry::blank(index, kind_of(b, body)),
+        ),
+    }
+}
+
+// ---- writing
+
+// All but the properties, by the kind, at the start of the part.
+fn put_body(
+    policy: GdsRoundingPolicy,
+    d: f64,
+    b: &[u8],
+    body: BodyPlaces,
+    part: &mut [u8],
+    entry: Entry,
+) -> Written
+    requires { ⌜ BodyIn (now b) body ⌝ }
+    requires { ⌜ entry .count ≤ 13 ⌝ }
+    requires { ⌜ bodyLength (now b) body ≤ length (now part) ⌝ }
+    ensures { λ r. ⌜ Writes bodyBytes entry (writeBody policy d (bodyAt (now (b .entry)) body)) 0 (now (part .entry)) (now (part .exit)) r ⌝ }
+{
+    match body {
+        BodyPlaces::Polygon { shape } => shape::put_polygon(policy, d, b, shape, part, 0, entry),
+        BodyPlaces::Path { path } => path::put_path(policy, d, b, path, part, 0, entry),
+        BodyPlaces::Text { text } => text::put_text(policy, d, b, text, part, 0, entry),
+        BodyPlaces::Node { shape: node } => shape::put_node(policy, d, b, node, part, 0, entry),
+        BodyPlaces::Reference { reference } => reference::put_reference(
+            policy,
+            d,
+            b,
+            reference,
+            part,
+            0,
+            entry,
+        ),
+    }
+}
+
+// The block's element into the part of the output that starts where the last one ended.
+pub fn put_element(
+    policy: GdsRoundingPolicy,
+    d: f64,
+    b: &[u8],
+    index: u32,
+    part: &mut [u8],
+) -> Written
+    requires { ⌜ Fits policy d (now b) (length (now part)) ⌝ }
+    ensures { λ r. ⌜ Owes (writtenBlock policy d index (now (part .entry)) (elementOf (now (b .entry)))) (now (part .exit)) r ⌝ }
+{
+    match forms::element(b) {
+        ElementForm::Ill => Written::Refused {
+            refusal: Refusal::Form,
+        },
+        ElementForm::Element { body, properties } => {
+            let kind = kind_of(b, body);
+            match put_body(policy, d, b, body, part, Entry::blank(index, kind)) {
+                Written::Refused { refusal } => Written::Refused { refusal },
+                Written::Through { to, entry } => properties::put_tail(
+                    b,
+                    properties.place,
+                    properties.count,
+                    part,
+                    to,
+                    entry,
+                ),
+            }
+        }
+    }
+}

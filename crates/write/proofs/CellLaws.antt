@@ -1,0 +1,242 @@
+-- A written sheet taken apart, and what writing a cell owes for each way out of it. Assumes nothing.
+use mathlib.Core.Path.{_≡_, refl, sym, ap, _∙_, subst}
+use mathlib.Core.Bool.{Bool, true, false}
+use mathlib.Core.Option.{Option, none, some}
+use mathlib.Core.List.{List, [], _∷_}
+use Prim.Native.Nat.{ℕ, suc, _-_, _*_, _≤_, _<_}
+use native.Mathlib.Omega.{arith}
+use lib.Dec.{T, leb}
+use lib.ListN.{length, take, length-append}
+use lib.Ieee.{Float, binary64, fits}
+use lib.Ieee.Positive.{positive}
+use borrow.Author.Tests.{le-leb, lt-leb, ne-eqb, leb-true, leb-false}
+use Rattle.refusal.specs.declared.Refusal.{Refusal}
+use Rattle.refusal.specs.declared.Refusal.the-variants as R
+use Rattle.big_endian.specs.Big.{Bytes}
+use Rattle.big_endian.specs.Buffer as B
+use Rattle.big_endian.proofs.BufferLaws.{at-start}
+use Rattle.conversion.specs.declared.GdsRoundingPolicy.{GdsRoundingPolicy}
+use Rattle.conversion.specs.declared.Deviation.{Deviation}
+use Rattle.conversion.specs.declared.Entry.{Entry}
+use Rattle.conversion.specs.Convert.{zero64}
+use Rattle.conversion.specs.Entry.{entryOf, reportBytes, greatestFrom}
+use Rattle.sheet.specs.Element.{Head, kindOf, headOf}
+use Rattle.sheet.specs.Blocks.{pairCount, pairsFit, blockOf}
+use Rattle.sheet.specs.Cell.{elementBlocks}
+use Rattle.stream.specs.Structure.{Said, Structure}
+use Rattle.cell.specs.declared.Answer.{Answer}
+use Rattle.cell.specs.declared.Answer.the-variants as A
+use Rattle.cell.specs.Limits.{maxSheetLength}
+use Rattle.cell.specs.Stamps.{stampsFit}
+use Rattle.cell.specs.Names.{isName}
+use Rattle.cell.specs.Cell.{Result, stopped, written, check, writeBlocks, structureFor, structureWith, writeHeaded, writeSheet, policyOf, measureWith, measureCell, structureBytes, entryLength, fitting, writeCell, outAfter, reportAfter}
+use Rattle.cell.specs.Answer.{answerOf}
+use Rattle.cell.specs.Draws.{Draws}
+use Rattle.cell.proofs.ResultLaws.{check-on, check-off}
+use Rattle.cell.proofs.DrawsLaws.{demand3}
+use Rattle.write.specs.Walk.{StructureFits, PutsStructure}
+use Rattle.write.specs.Writer.{defined, WritesCell}
+use Rattle.write.proofs.PairLaws.{pairs-count, length-blocks}
+use Rattle.write.proofs.WalkLaws.{split}
+
+-- ---- a written sheet
+
+-- what is written has passed each check on its way
+check-passed : {A : Type 0} (t : Bool) (r : Refusal) (x : Result A) {a : A} {es : List Entry} → check t r x ≡ written a es → T t × (x ≡ written a es)
+check-passed true r x e = (tt, e)
+check-passed false r x e = let z : _≡_ {A = ℕ} 0 1 = cc in absurd (omega arith)
+
+pub record Sheet (policy : GdsRoundingPolicy) (d : Float) (sheet : List ℕ) (s : Structure) (es : List Entry) : Type 0 where
+  pub pairs : T (pairsFit sheet)
+  pub head : Head
+  pub held : headOf (blockOf sheet 0) ≡ some head
+  pub name : T (isName (head .name))
+  pub elements : List Said
+  pub writes : writeBlocks policy d 0 (elementBlocks sheet) ≡ written elements es
+  pub structure : s ≡ structureFor head elements
+
+pub sheet-split : (policy : GdsRoundingPolicy) (d : Float) (sheet : List ℕ) (s : Structure) (es : List Entry) → writeSheet policy d sheet ≡ written s es → Sheet policy d sheet s es
+unfolding writeSheet writeHeaded
+sheet-split policy d sheet s es w =
+    let p = check-passed (pairsFit sheet) _ _ w in
+    by-head (p .0) (headOf (blockOf sheet 0)) refl (p .1)
+  where
+    by-walk : T (pairsFit sheet) → (h : Head) → headOf (blockOf sheet 0) ≡ some h → T (isName (h .name)) → (x : Result (List Said)) → writeBlocks policy d 0 (elementBlocks sheet) ≡ x
+        → structureWith h x ≡ written s es → Sheet policy d sheet s es
+    by-walk p h e n (stopped r k) f g = let z : _≡_ {A = ℕ} 0 1 = cc in absurd (omega arith)
+    by-walk p h e n (written ws fs) f g =
+        let i : fs ≡ es = cc in
+        record { pairs = p; head = h; held = e; name = n; elements = ws; writes = f ∙ ap (written ws) i; structure = cc }
+
+    by-head : T (pairsFit sheet) → (x : Option Head) → headOf (blockOf sheet 0) ≡ x → writeHeaded policy d sheet x ≡ written s es → Sheet policy d sheet s es
+    by-head p none e g = let z : _≡_ {A = ℕ} 0 1 = cc in absurd (omega arith)
+    by-head p (some h) e g =
+        let t = check-passed (stampsFit (h .stamps)) _ _ g in
+        let n = check-passed (isName (h .name)) _ _ (t .1) in
+        by-walk p h e (n .0) (writeBlocks policy d 0 (elementBlocks sheet)) refl (n .1)
+
+-- an element has at most one entry
+entry-one : (i k : ℕ) (vs : List Deviation) → length (entryOf i k vs) ≤ 1
+unfolding entryOf
+entry-one i k [] = omega arith
+entry-one i k (v ∷ vs) = omega arith
+
+walk-few : (policy : GdsRoundingPolicy) (d : Float) (i : ℕ) (bs : List (List ℕ)) (ws : List Said) (es : List Entry) → writeBlocks policy d i bs ≡ written ws es → length es ≤ length bs
+unfolding writeBlocks
+walk-few policy d i [] ws es w = let e : es ≡ [] = cc in let f = ap length e in omega arith
+walk-few policy d i (b ∷ bs) ws es w =
+    let s = split policy d i b bs ws es w in
+    let r = walk-few policy d (suc i) bs (s .rest) (s .others) (s .after) in
+    let o = entry-one i (kindOf (s .element .body)) (s .deviations) in
+    let l = ap length (s .entries) ∙ length-append (entryOf i (kindOf (s .element .body)) (s .deviations)) (s .others) in
+    omega arith
+
+-- so their bytes can be counted
+pub entries-few : (policy : GdsRoundingPolicy) (d : Float) (sheet : List ℕ) (s : Structure) (es : List Entry) → writeSheet policy d sheet ≡ written s es → length es ≤ 16384
+entries-few policy d sheet s es w =
+    let x = sheet-split policy d sheet s es w in
+    let f = walk-few policy d 0 (elementBlocks sheet) (x .elements) es (x .writes) in
+    let l = length-blocks (pairCount sheet - 1) 1 sheet in
+    let m = pairs-count sheet (x .pairs) .most in
+    omega arith
+
+-- ---- a measured cell
+
+-- 1 to 3 have passed, and the sheet is written
+pub record Passed (policy : ℕ) (d : Float) (sheet : List ℕ) (s : Structure) (es : List Entry) : Type 0 where
+  pub rounding : GdsRoundingPolicy
+  pub named : policyOf policy ≡ some rounding
+  pub writes : writeSheet rounding d sheet ≡ written s es
+
+passed : (policy : ℕ) (d : Float) (sheet : List ℕ) (s : Structure) (es : List Entry) → measureCell policy d sheet ≡ written s es → Passed policy d sheet s es
+unfolding measureCell measureWith
+passed policy d sheet s es m = go (policyOf policy) refl m
+  where
+    go : (x : Option GdsRoundingPolicy) → policyOf policy ≡ x → measureWith x d sheet ≡ written s es → Passed policy d sheet s es
+    go none e m = let z : _≡_ {A = ℕ} 0 1 = cc in absurd (omega arith)
+    go (some p) e m =
+        let u = check-passed (positive d) _ _ m in
+        let l = check-passed (leb (length sheet) maxSheetLength) _ _ (u .1) in
+        record { rounding = p; named = e; writes = l .1 }
+
+-- a policy that is known is at most 3
+policy-most : (n : ℕ) (p : GdsRoundingPolicy) → policyOf n ≡ some p → n ≤ 3
+unfolding policyOf
+policy-most n p e = go (leb n 3) refl
+  where
+    go : (t : Bool) → leb n 3 ≡ t → n ≤ 3
+    go true f = leb-true n 3 f
+    go false f =
+        let l = leb-false n 3 f in
+        let g : policyOf n ≡ none = rw (ne-eqb n 0 (λ z. omega arith), ne-eqb n 1 (λ z. omega arith), ne-eqb n 2 (λ z. omega arith), ne-eqb n 3 (λ z. omega arith)) in
+        let z : _≡_ {A = ℕ} 0 1 = cc in absurd (omega arith)
+
+-- the structure that was measured, by the answer
+pub record Measured (policy : ℕ) (d : Float) (sheet : List ℕ) (n c : ℕ) (g : Float) : Type 0 where
+  pub structure : Structure
+  pub entries : List Entry
+  pub is : measureCell policy d sheet ≡ written structure entries
+  pub bytes : n ≡ length (structureBytes structure)
+  pub count : c ≡ length entries
+  pub greatest : g ≡ greatestFrom zero64 entries
+
+module _ (policy : ℕ) (d : Float) (sheet : List ℕ) where
+  stopped-is : (r : Refusal) (k : ℕ) → A.Refused r k ≡ answerOf (measureCell policy d sheet) → measureCell policy d sheet ≡ stopped r k
+  stopped-is r k e = go (measureCell policy d sheet) e
+    where
+      go : (x : Result Structure) → A.Refused r k ≡ answerOf x → x ≡ stopped r k
+      go (stopped q j) e = cc
+      go (written s es) e = let z : _≡_ {A = ℕ} 0 1 = cc in absurd (omega arith)
+
+  pub measured : (a : Answer) {n c : ℕ} {g : Float} → a ≡ A.Accepted n c g → a ≡ answerOf (measureCell policy d sheet) → Measured policy d sheet n c g
+  measured a {n} {c} {g} i e = go (measureCell policy d sheet) refl (sym i ∙ e)
+    where
+      go : (x : Result Structure) → measureCell policy d sheet ≡ x → A.Accepted n c g ≡ answerOf x → Measured policy d sheet n c g
+      go (stopped r k) f e = let z : _≡_ {A = ℕ} 0 1 = cc in absurd (omega arith)
+      go (written s es) f e = record { structure = s; entries = es; is = f; bytes = cc; count = cc; greatest = cc }
+
+module _ {policy : ℕ} {d : Float} {sheet : List ℕ} {n c : ℕ} {g : Float} (m : Measured policy d sheet n c g) where
+  went : Passed policy d sheet (m .structure) (m .entries)
+  went = passed policy d sheet (m .structure) (m .entries) (m .is)
+
+  pub known-policy : policy ≤ 3
+  known-policy = policy-most policy (went .rounding) (went .named)
+
+  pub count-few : c ≤ 16384
+  count-few =
+      let f = entries-few (went .rounding) d sheet (m .structure) (m .entries) (went .writes) in
+      let e = m .count in
+      omega arith
+
+  module _ {p : GdsRoundingPolicy} (e : policyOf policy ≡ some p) where
+    sheet-written : writeSheet p d sheet ≡ written (m .structure) (m .entries)
+    sheet-written =
+        let q : went .rounding ≡ p = cc (went .named, e) in
+        subst (λ (x : GdsRoundingPolicy). writeSheet x d sheet ≡ written (m .structure) (m .entries)) q (went .writes)
+
+    pub structure-fits : {out report : ℕ} → n ≤ out → entryLength * c ≤ report → StructureFits p d sheet out report
+    structure-fits o r =
+        let a = m .bytes in
+        let b = m .count in
+        record { structure = m .structure; entries = m .entries; writes = sheet-written; out-room = omega arith; report-room = omega arith }
+
+-- ---- writing a cell: each way out
+
+module _ {policy : ℕ} {d : Float} {sheet : List ℕ} (out report : List ℕ) (fd : fits binary64 d ≡ true) (all : Bytes sheet) where
+  -- the answer and both buffers are the definition's, so the structure draws the sheet's cell
+  writes : (r : Answer) (out′ report′ : List ℕ) (x : Result Structure) → defined policy d sheet out report ≡ x → r ≡ answerOf x → out′ ≡ outAfter x out → report′ ≡ reportAfter x report
+      → WritesCell policy d sheet out report out′ report′ r
+  writes r out′ report′ x e a o p =
+      let answer : r ≡ answerOf (defined policy d sheet out report) = a ∙ ap answerOf (sym e) in
+      let output : out′ ≡ outAfter (defined policy d sheet out report) out = o ∙ ap (λ (y : Result Structure). outAfter y out) (sym e) in
+      record {
+        answer = answer;
+        output = output;
+        entries = p ∙ ap (λ (y : Result Structure). reportAfter y report) (sym e);
+        draws = λ n k g f. subst (λ (bs : List ℕ). Draws policy d sheet (take n bs)) (sym output) (demand3 policy d sheet out report n k g (subst T (sym fd) tt) all (sym answer ∙ f));
+      }
+
+  refuses : (r : Refusal) (k : ℕ) → defined policy d sheet out report ≡ stopped r k → WritesCell policy d sheet out report out report (A.Refused r k)
+  refuses r k e = writes (A.Refused r k) out report (stopped r k) e refl refl refl
+
+  pub cell-refused : (a : Answer) {r : Refusal} {k : ℕ} → a ≡ A.Refused r k → a ≡ answerOf (measureCell policy d sheet) → WritesCell policy d sheet out report out report (A.Refused r k)
+  unfolding writeCell fitting
+  cell-refused a {r} {k} f e = refuses r k (ap (fitting (length out) (length report)) (stopped-is policy d sheet r k (sym f ∙ e)))
+
+  module _ {n c : ℕ} {g : Float} (m : Measured policy d sheet n c g) where
+    abbrev bytes : ℕ
+    bytes = length (structureBytes (m .structure))
+
+    abbrev size : ℕ
+    size = entryLength * length (m .entries)
+
+    pub output-short : length out < n → WritesCell policy d sheet out report out report (A.Refused R.OutputShort 0)
+    unfolding writeCell fitting
+    output-short l =
+        let a = m .bytes in
+        refuses R.OutputShort 0 (ap (fitting (length out) (length report)) (m .is) ∙ check-off (leb bytes (length out)) _ _ (lt-leb bytes (length out) (omega arith)))
+
+    module _ (room : n ≤ length out) where
+      -- 21 has passed
+      to-report : defined policy d sheet out report ≡ check (leb size (length report)) R.ReportShort (written (m .structure) (m .entries))
+      unfolding writeCell fitting
+      to-report =
+          let a = m .bytes in
+          ap (fitting (length out) (length report)) (m .is) ∙ check-on (leb bytes (length out)) _ _ (le-leb bytes (length out) (omega arith))
+
+      pub report-short : length report < entryLength * c → WritesCell policy d sheet out report out report (A.Refused R.ReportShort 0)
+      report-short l =
+          let b = m .count in
+          refuses R.ReportShort 0 (to-report ∙ check-off (leb size (length report)) _ _ (lt-leb size (length report) (omega arith)))
+
+      pub cell-written : entryLength * c ≤ length report → {p : GdsRoundingPolicy} → policyOf policy ≡ some p → {out′ report′ : List ℕ} → PutsStructure p d sheet out report out′ report′
+          → WritesCell policy d sheet out report out′ report′ (A.Accepted n c g)
+      unfolding B.over
+      cell-written l e {out′} {report′} w =
+          let b = m .count in
+          let f = sheet-written m e in
+          writes (A.Accepted n c g) out′ report′ (written (m .structure) (m .entries))
+          (to-report ∙ check-on (leb size (length report)) _ _ (le-leb size (length report) (omega arith)))
+          (cc (m .bytes, m .count, m .greatest))
+          (w .output (m .structure) (m .entries) f ∙ sym (at-start (structureBytes (m .structure)) out))
+          (w .entries (m .structure) (m .entries) f ∙ sym (at-start (reportBytes (m .entries)) report))

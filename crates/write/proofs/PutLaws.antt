@@ -1,0 +1,232 @@
+-- Writing, as the code sees it: an element's entry, a block, and all blocks in turn. Assumes nothing.
+use mathlib.Core.Path.{_≡_, refl, sym, ap, _∙_, subst}
+use mathlib.Core.Bool.{Bool, cond}
+use mathlib.Core.Option.{Option}
+use mathlib.Core.List.{List, [], _∷_, _++_, append-nil}
+use Prim.Native.Nat.{ℕ, suc, _+_, _-_, _≤_, _<_}
+use native.Mathlib.Nat.{zero-add}
+use native.Mathlib.Omega.{arith}
+use lib.Dec.{T}
+use lib.ListN.{length, take, drop, length-append, length-take, length-drop}
+use lib.Ieee.{Float}
+use borrow.Author.Tests.{eq-eqb, ne-eqb}
+use Rattle.refusal.specs.declared.Refusal.{Refusal}
+use Rattle.big_endian.specs.Buffer.{splice, Wrote, WroteAt}
+use Rattle.big_endian.proofs.BufferLaws.{at-start, nothing-at, part-at, same-bytes}
+use Rattle.conversion.specs.declared.GdsRoundingPolicy.{GdsRoundingPolicy}
+use Rattle.conversion.specs.declared.Entry.{Entry}
+use Rattle.conversion.specs.Entry.{entryOf, entryBytes, reportBytes}
+use Rattle.conversion.specs.Made.{Made}
+use Rattle.conversion.specs.Fold.{blankEntry, notedAll, standing, run}
+use Rattle.conversion.proofs.EntryLaws.{length-entry, length-report, report-append}
+use Rattle.conversion.proofs.FoldLaws.{entry-stands}
+use Rattle.sheet.specs.Element.{Element, kindOf, elementOf}
+use Rattle.sheet.specs.Blocks.{maxPairs, pairCount, pairsFit, blockOf, blocksFrom}
+use Rattle.stream.specs.Structure.{Said}
+use Rattle.stream.specs.Records.{elementBytes, elementsBytes}
+use Rattle.cell.specs.Cell.{writeBlocks}
+use Rattle.writing.specs.declared.Written.{Written}
+use Rattle.writing.specs.declared.Written.the-variants as W
+use Rattle.writing.specs.Steps.{stopped, putting, Owes}
+use Rattle.elements.specs.Block.{writtenBlock, Fits}
+use Rattle.write.specs.Walk.{ElementsFit, PutsElements}
+use Rattle.write.proofs.PairLaws.{pairs-count, blocks-turn, blocks-end}
+use Rattle.write.proofs.WalkLaws.{Split, split, Reached, reached-start, reached-turn, reached-end}
+
+-- ---- an element's entry
+
+-- none stands
+pub entry-none : (e : Entry) (d : List ℕ) (at : ℕ) → e .count ≡ 0 → at + length (reportBytes (standing e)) ≤ length d → WroteAt (reportBytes (standing e)) d d at at
+entry-none e d at h l = same-bytes (sym (ap (λ (t : Bool). reportBytes (cond t [] (e ∷ []))) (eq-eqb (e .count) 0 h))) (nothing-at d at (omega arith))
+
+-- one stands
+module _ (e : Entry) (h : e .count ≡ 0 → ⊥) where
+  stands : reportBytes (standing e) ≡ entryBytes e
+  stands = ap (λ (t : Bool). reportBytes (cond t [] (e ∷ []))) (ne-eqb (e .count) 0 h) ∙ append-nil (entryBytes e)
+
+  pub entry-room : (at n : ℕ) → at + length (reportBytes (standing e)) ≤ n → at + 33 ≤ n
+  entry-room at n l =
+      let k : length (reportBytes (standing e)) ≡ 33 = ap length stands ∙ length-entry e in
+      omega arith
+
+  pub entry-put : {d after : List ℕ} {at r : ℕ} → WroteAt (entryBytes e) d after at r → WroteAt (reportBytes (standing e)) d after at r
+  entry-put w = same-bytes (sym stands) w
+
+-- ---- one block, lent a part of the output
+
+module _ {policy : GdsRoundingPolicy} {d : Float} {i : ℕ} {b : List ℕ} {bs : List (List ℕ)} {ws : List Said} {es : List Entry} (s : Split policy d i b bs ws es) where
+  abbrev bytes : List ℕ
+  bytes = elementBytes (s .said)
+
+  -- its entry, and what stands of it
+  abbrev entry-of : Entry
+  entry-of = notedAll (blankEntry i (kindOf (s .element .body))) (s .deviations)
+
+  abbrev entries-of : List Entry
+  entries-of = entryOf i (kindOf (s .element .body)) (s .deviations)
+
+  -- what the block owes, now that it is not refused
+  owed : (part last : List ℕ) (r : Written) → Owes (writtenBlock policy d i part (elementOf b)) last r → (last ≡ splice 0 bytes part) × (r ≡ W.Through (0 + length bytes) entry-of)
+  unfolding writtenBlock run putting
+  owed part last r o =
+      subst (λ (m : Made Said). Owes (run stopped (blankEntry i (kindOf (s .element .body))) m (putting elementBytes 0 part)) last r) (s .writes)
+      (subst (λ (x : Option Element). Owes (writtenBlock policy d i part x) last r) (s .held) o)
+
+  never-refused : {X : Type 0} (part last : List ℕ) (r : Written) (x : Refusal) → Owes (writtenBlock policy d i part (elementOf b)) last r → r ≡ W.Refused x → X
+  never-refused part last r x o e = let f = owed part last r o .1 in let z : _≡_ {A = ℕ} 0 1 = cc in absurd (omega arith)
+
+  block-accepted : (n : ℕ) → length bytes ≤ n → Fits policy d b n
+  block-accepted n l = record { accepted = record { element = s .element; said = s .said; deviations = s .deviations; held = s .held; writes = s .writes }; room = l }
+
+  -- its bytes stand at the start of the part, and what it answers
+  block-wrote : (part last : List ℕ) (r : Written) → length bytes ≤ length part → Owes (writtenBlock policy d i part (elementOf b)) last r
+      → Wrote bytes part last (length bytes) × (r ≡ W.Through (length bytes) entry-of)
+  block-wrote part last r l o =
+      let f = owed part last r o in
+      (record { count = refl; fits = l; out = f .0 ∙ sym (at-start bytes part) }, f .1 ∙ ap (λ (n : ℕ). W.Through n entry-of) (zero-add (length bytes)))
+
+  -- its bytes come first, and so do those of its entry
+  bytes-first : length (elementsBytes ws) ≡ length bytes + length (elementsBytes (s .rest))
+  unfolding elementsBytes
+  bytes-first = ap (λ (l : List Said). length (elementsBytes l)) (s .elements) ∙ length-append bytes (elementsBytes (s .rest))
+
+  entries-first : length (reportBytes es) ≡ length (reportBytes entries-of) + length (reportBytes (s .others))
+  entries-first =
+      ap (λ (l : List Entry). length (reportBytes l)) (s .entries)
+      ∙ ap length (report-append entries-of (s .others))
+      ∙ length-append (reportBytes entries-of) (reportBytes (s .others))
+
+-- ---- all blocks in turn: the state before block k of n
+
+pub record Turns (policy : GdsRoundingPolicy) (d : Float) (sheet before : List ℕ) (start : ℕ) (report : List ℕ) (n : ℕ) (out after : List ℕ) (k to at : ℕ) : Type 0 where
+  pub first : 1 ≤ k
+  pub within : k ≤ n
+  pub count : n ≡ pairCount sheet
+  pub most : n ≤ maxPairs
+  pub fit : ElementsFit policy d sheet start (length before) (length report)
+  pub reached : Reached policy d (k - 1) (blocksFrom (n - k) k sheet) (fit .elements) (fit .entries) start before report to at out after
+
+module _ {policy : GdsRoundingPolicy} {d : Float} {sheet before : List ℕ} {start : ℕ} {report : List ℕ} {n : ℕ} where
+  pub turns-start : T (pairsFit sheet) → n ≡ pairCount sheet → ElementsFit policy d sheet start (length before) (length report) → Turns policy d sheet before start report n before report 1 start 0
+  turns-start p e f =
+      let c = pairs-count sheet p in
+      let l = c .least in
+      let m = c .most in
+      record {
+        first = omega arith;
+        within = omega arith;
+        count = e;
+        most = omega arith;
+        fit = f;
+        reached = reached-start policy d (blocksFrom (n - 1) 1 sheet) (f .elements) (f .entries) start before report (ap (λ (j : ℕ). writeBlocks policy d 0 (blocksFrom (j - 1) 1 sheet)) e ∙ f .writes);
+      }
+
+module _ {policy : GdsRoundingPolicy} {d : Float} {sheet before : List ℕ} {start : ℕ} {report : List ℕ} {n : ℕ} {out after : List ℕ} {k to at : ℕ}
+    (t : Turns policy d sheet before start report n out after k to at) where
+  -- the state, over the blocks that are left
+  abbrev Before : List (List ℕ) → Type 0
+  Before bs = Reached policy d (k - 1) bs (t .fit .elements) (t .fit .entries) start before report to at out after
+
+  pub turns-end : n ≤ k → PutsElements policy d sheet start before report out after to
+  turns-end l =
+      let f = t .fit in
+      let e = reached-end policy d [] (f .elements) (f .entries) start before report (k - 1) to at out after (subst Before (blocks-end n k sheet l) (t .reached)) in
+      record {
+        output = λ ws es w. let a : f .elements ≡ ws = cc (f .writes, w) in same-bytes (ap elementsBytes a) (record { count = e .1 .1; fits = f .out-room; out = e .0 });
+        entries = λ ws es w. let a : f .entries ≡ es = cc (f .writes, w) in e .1 .0 ∙ ap (λ (l : List Entry). splice 0 (reportBytes l) report) a;
+      }
+
+  pub out-same : length out ≡ length before
+  out-same = t .reached .out-long
+
+  pub report-same : length after ≡ length report
+  report-same = t .reached .report-long
+
+  -- the index of block k fits its 4 bytes
+  pub index-small : k - 1 < 16384
+  index-small = let a = t .first in let b = t .within in let c = t .most in omega arith
+
+  module _ (h : k < n) {b : List ℕ} (is : b ≡ blockOf sheet k) where
+    abbrev others : List (List ℕ)
+    others = blocksFrom (n - (k + 1)) (k + 1) sheet
+
+    -- the part that the block is lent
+    abbrev part : List ℕ
+    part = take (length out - to) (drop to out)
+
+    at-block : Before (b ∷ others)
+    at-block = subst Before (blocks-turn n k sheet h ∙ ap (λ (l : List ℕ). l ∷ others) (sym is)) (t .reached)
+
+    abbrev here : Split policy d (k - 1) b others (at-block .rest) (at-block .others)
+    here = split policy d (k - 1) b others (at-block .rest) (at-block .others) (at-block .writes)
+
+    abbrev bytes-here : List ℕ
+    bytes-here = elementBytes (here .said)
+
+    room : to + length bytes-here ≤ length out
+    room =
+        let a = at-block .out-end in
+        let c = at-block .out-long in
+        let e = bytes-first here in
+        let f = t .fit .out-room in
+        omega arith
+
+    part-room : length bytes-here ≤ length part
+    part-room = let a = room in simp (length-take, length-drop) (omega arith)
+
+    pub turn-place : to ≤ length out
+    turn-place = let a = room in omega arith
+
+    pub turn-fits : Fits policy d b (length part)
+    turn-fits = block-accepted here (length part) part-room
+
+    -- what `elements::put_element` promises of the part
+    module _ (last : List ℕ) (r : Written) (o : Owes (writtenBlock policy d (k - 1) part (elementOf b)) last r) where
+      pub turn-never : {X : Type 0} {x : Refusal} → r ≡ W.Refused x → X
+      turn-never {x = x} e = never-refused here part last r x o e
+
+      module _ {m : ℕ} {entry : Entry} (e : r ≡ W.Through m entry) where
+        done : Wrote bytes-here part last (length bytes-here) × (r ≡ W.Through (length bytes-here) (entry-of here))
+        done = block-wrote here part last r part-room o
+
+        long : m ≡ length bytes-here
+        long = let f = done .1 in cc
+
+        noted : standing entry ≡ entries-of here
+        noted =
+            let f = done .1 in
+            let g : entry ≡ entry-of here = cc in
+            ap standing g ∙ entry-stands (k - 1) (kindOf (here .element .body)) (here .deviations)
+
+        pub turn-end : to + m ≤ length out
+        turn-end = let a = room in let c = long in omega arith
+
+        pub turn-report : at + length (reportBytes (standing entry)) ≤ length after
+        turn-report =
+            let a = at-block .report-end in
+            let c = at-block .report-long in
+            let f = entries-first here in
+            let g : length (reportBytes (standing entry)) ≡ length (reportBytes (entries-of here)) = ap (λ (l : List Entry). length (reportBytes l)) noted in
+            let l = length-report (t .fit .entries) in
+            let q = t .fit .report-room in
+            omega arith
+
+        -- the whole output, with the part come back
+        abbrev whole : List ℕ
+        whole = take to out ++ (last ++ drop (length out - to) (drop to out))
+
+        pub turn-next : {after′ : List ℕ} {at′ : ℕ} → WroteAt (reportBytes (standing entry)) after after′ at at′ → Turns policy d sheet before start report n whole after′ (k + 1) (to + m) at′
+        turn-next {after′} {at′} w =
+            let wrote : WroteAt bytes-here out whole to (to + m) = subst (λ (j : ℕ). WroteAt bytes-here out whole to (to + j)) (sym long) (part-at turn-place (done .0)) in
+            let next = reached-turn policy d (b ∷ others) (t .fit .elements) (t .fit .entries) start before report (k - 1) b others to at out after at-block here (to + m) at′ whole after′ wrote (same-bytes (ap reportBytes noted) w) in
+            record {
+              first = omega arith;
+              within = omega arith;
+              count = t .count;
+              most = t .most;
+              fit = t .fit;
+              reached = subst (λ (j : ℕ). Reached policy d j others (t .fit .elements) (t .fit .entries) start before report (to + m) at′ whole after′) (index k (t .first)) next;
+            }
+          where
+            index : (k : ℕ) → 1 ≤ k → suc (k - 1) ≡ k + 1 - 1
+            index k h = omega arith

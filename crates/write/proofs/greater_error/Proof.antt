@@ -1,0 +1,21 @@
+-- `write::greater_error` meets its contract. Assumes nothing.
+use mathlib.Core.Bool.{true, false}
+use Rattle.write.proofs.BlocksLaws.{greatest-nothing, greatest-stands}
+use Rattle.write.proofs.greater_error.Statement.{statement}
+use Rattle.write.proofs.greater_error.Tie as tie
+
+returns : tie.Need-returns
+returns c = greatest-nothing (c .before .before .args .g) (c .before .before .args .entry) (c .if1 .taken)
+
+returns-2 : tie.Need-returns-2
+returns-2 c =
+    let a = c .before .before .before .before .args in
+    greatest-stands (a .g) (a .entry) true (c .before .before .if1 .left) (c .if2 .taken)
+
+returns-3 : tie.Need-returns-3
+returns-3 c =
+    let a = c .before .before .before .before .args in
+    greatest-stands (a .g) (a .entry) false (c .before .before .if1 .left) (c .if2 .left)
+
+pub greater-error-spec : {M : Type 1} → statement M
+greater-error-spec = tie.close (tie.spec returns returns-2 returns-3)

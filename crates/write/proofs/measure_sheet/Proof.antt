@@ -1,0 +1,110 @@
+-- `write::measure_sheet` meets its contract: pairs, head, elements, and the sum of their bytes. Assumes nothing.
+use mathlib.Core.Path.{refl, subst}
+use native.Mathlib.Omega.{arith}
+use borrow.Author.Needs.{needs}
+use Rattle.sheet.specs.Blocks.{pairCount}
+use Rattle.write.specs.Walk.{HeadSmall, TotalsSmall}
+use Rattle.write.proofs.PairLaws.{pairs-count, block-in}
+use Rattle.write.proofs.BlocksLaws.{pairs-hold}
+use Rattle.write.proofs.SheetLaws.{pairs-stop, head-stop, elements-stop, sheet-through}
+use Rattle.write.proofs.measure_sheet.Statement.{statement}
+use Rattle.write.proofs.measure_sheet.Tie as tie
+
+pairs-fit-requires : tie.Need-pairs-fit-requires
+pairs-fit-requires c κs = search needs
+
+returns : tie.Need-returns
+returns c =
+    let s = c .before .before .before .args in
+    let t = c .before .pairs-fit in
+    pairs-stop (s .policy) (s .d) (s .sheet .now) (t .result) (t .ensures) (c .if1 .taken)
+
+block-requires : tie.Need-block-requires
+block-requires c κs =
+    let s = c .before .before .before .args .sheet .now in
+    let t = c .before .pairs-fit in
+    let f = pairs-hold s (t .result) (t .ensures) (c .if1 .left) in
+    let p = pairs-count s f in
+    block-in s (pairCount s) 0 f refl (omega arith)
+
+measure-head-requires : tie.Need-measure-head-requires
+measure-head-requires c κs = search needs
+
+enum-known-refusal : tie.Need-enum-known-refusal
+enum-known-refusal c = search needs
+
+enum-known-front : tie.Need-enum-known-front
+enum-known-front c = search needs
+
+measure-elements-requires : tie.Need-measure-elements-requires
+measure-elements-requires c κs =
+    let t = c .before .before .before .before .before .before .pairs-fit in
+    (c .before .before .before .before .before .before .before .before .pre, pairs-hold (c .before .before .before .before .before .before .before .before .args .sheet .now) (t .result) (t .ensures) (c .before .before .before .before .before .if1 .left))
+
+enum-known-refusal2 : tie.Need-enum-known-refusal2
+enum-known-refusal2 c = search needs
+
+enum-known-length : tie.Need-enum-known-length
+enum-known-length c = search needs
+
+add-t19 : tie.Need-add-t19
+add-t19 c =
+    let h = subst HeadSmall (c .before .before .before .before .before .front .given .1) (c .before .before .before .before .before .before .before .measure-head .ensures .1) in
+    let e = subst TotalsSmall (c .before .length .given .1) (c .before .before .before .measure-elements .ensures .1) in
+    search needs
+
+add-t20 : tie.Need-add-t20
+add-t20 c =
+    let h = subst HeadSmall (c .before .before .before .before .before .front .given .1) (c .before .before .before .before .before .before .before .measure-head .ensures .1) in
+    let e = subst TotalsSmall (c .before .length .given .1) (c .before .before .before .measure-elements .ensures .1) in
+    search needs
+
+returns-2 : tie.Need-returns-2
+returns-2 c =
+    let s = c .before .before .before .before .before .before .before .before .args in
+    let t = c .before .before .before .before .before .before .pairs-fit in
+    let b = c .before .before .before .before .block in
+    let h = c .before .before .before .measure-head in
+    let g = c .before .refusal .given in
+    head-stop (s .policy) (s .d) (s .sheet .now) (t .result) (t .ensures) (c .before .before .before .before .before .if1 .left) (b .result .now) (b .ensures) (h .result) (h .ensures .0) (g .0 .0) (g .1)
+
+returns-3 : tie.Need-returns-3
+returns-3 c =
+    let s = c .before .before .before .before .before .before .before .before .before .before .before .before .args in
+    let t = c .before .before .before .before .before .before .before .before .before .before .pairs-fit in
+    let b = c .before .before .before .before .before .before .before .before .block in
+    let h = c .before .before .before .before .before .before .before .measure-head in
+    let f = c .before .before .before .before .before .front .given in
+    let a = c .before .before .before .measure-elements in
+    let g = c .before .refusal2 .given in
+    elements-stop (s .policy) (s .d) (s .sheet .now) (t .result) (t .ensures) (c .before .before .before .before .before .before .before .before .before .if1 .left) (b .result .now) (b .ensures) (h .result) (h .ensures .0) (f .0 .0) (f .1) (a .result) (a .ensures .0) (g .0 .0) (g .0 .1 .0) (g .1)
+
+returns-4 : tie.Need-returns-4
+returns-4 c =
+    let s = c .before .before .before .before .before .before .before .before .before .before .before .before .args in
+    let t = c .before .before .before .before .before .before .before .before .before .before .pairs-fit in
+    let b = c .before .before .before .before .before .before .before .before .block in
+    let h = c .before .before .before .before .before .before .before .measure-head in
+    let f = c .before .before .before .before .before .front .given in
+    let a = c .before .before .before .measure-elements in
+    let g = c .before .length .given in
+    sheet-through (s .policy) (s .d) (s .sheet .now) (t .result) (t .ensures) (c .before .before .before .before .before .before .before .before .before .if1 .left) (b .result .now) (b .ensures) (h .result) (h .ensures .0) (f .0 .0) (f .1) (a .result) (a .ensures .0) (g .0 .0) (g .0 .1 .0) (g .0 .1 .1 .0) (g .1)
+
+pub measure-sheet-spec : {M : Type 1} → statement M
+measure-sheet-spec =
+    tie.close
+    (tie.spec
+    pairs-fit-requires
+    returns
+    block-requires
+    measure-head-requires
+    enum-known-refusal
+    enum-known-front
+    measure-elements-requires
+    enum-known-refusal2
+    enum-known-length
+    add-t19
+    add-t20
+    returns-2
+    returns-3
+    returns-4)

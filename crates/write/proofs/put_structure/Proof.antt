@@ -1,0 +1,72 @@
+-- The head, the blocks in turn, then ENDSTR (StructureLaws). Assumes nothing.
+use borrow.Author.Needs.{needs}
+use Rattle.write.proofs.StructureLaws.{sheet-pairs, head-block, never-ill, places-in, name-most, head-fits, elements-fit, end-fits, puts-structure}
+use Rattle.write.proofs.put_structure.Statement.{statement}
+use Rattle.write.proofs.put_structure.Tie as tie
+
+block-requires : tie.Need-block-requires
+block-requires c κs =
+    let s = c .before .before .before in
+    head-block (s .args .out .now) (s .args .report .now) (s .pre)
+
+head-of-requires : tie.Need-head-of-requires
+head-of-requires c κs = search needs
+
+enum-told : tie.Need-enum-told
+enum-told c = search needs
+
+enum-known-places : tie.Need-enum-known-places
+enum-known-places c = search needs
+
+put-head-requires : tie.Need-put-head-requires
+put-head-requires c κs =
+    let h = c .before .before .before .before in
+    let s = h .before .before .before .before .before in
+    let p = c .before .before .places .given .1 in
+    (places-in (s .args .out .now) (s .args .report .now) (s .pre) (h .before .block .ensures) (h .head-of .ensures) p, (name-most (s .args .out .now) (s .args .report .now) (s .pre) (h .before .block .ensures) (h .head-of .ensures) p, head-fits (s .args .out .now) (s .args .report .now) (s .pre) (h .before .block .ensures) (h .head-of .ensures) p))
+
+put-elements-requires : tie.Need-put-elements-requires
+put-elements-requires c κs =
+    let h = c .before .before .before .before .before .before .before .before .before in
+    let s = h .before .before .before .before .before in
+    (sheet-pairs (s .args .out .now) (s .args .report .now) (s .pre), elements-fit (s .args .out .now) (s .args .report .now) (s .pre) (h .before .block .ensures) (h .head-of .ensures) (c .before .before .before .before .before .before .before .places .given .1) (c .before .before .before .before .put-head .ensures))
+
+put-empty-at-requires : tie.Need-put-empty-at-requires
+put-empty-at-requires c κs =
+    let h = c .before .before .before .before .before .before .before .before .before .before .before .before .before .before .before in
+    let s = h .before .before .before .before .before in
+    end-fits (s .args .out .now) (s .args .report .now) (s .pre) (h .before .block .ensures) (h .head-of .ensures) (c .before .before .before .before .before .before .before .before .before .before .before .before .before .places .given .1) (c .before .before .before .before .before .before .before .before .before .before .put-head .ensures) (c .before .before .before .before .before .put-elements .ensures)
+
+returns : tie.Need-returns
+returns c =
+    let h = c .before .before in
+    let s = h .before .before .before .before .before in
+    never-ill (s .args .out .now) (s .args .report .now) (s .pre) (h .before .block .ensures) (h .head-of .ensures) (c .enum-told .given .1)
+
+same-length : tie.Need-same-length
+same-length c = search needs
+
+same-length-2 : tie.Need-same-length-2
+same-length-2 c = search needs
+
+returns-2 : tie.Need-returns-2
+returns-2 c =
+    let h = c .before .before .before .before .before .before .before .before .before .before .before .before .before .before .before .before .before .before in
+    let s = h .before .before .before .before .before in
+    puts-structure (s .args .out .now) (s .args .report .now) (s .pre) (h .before .block .ensures) (h .head-of .ensures) (c .before .before .before .before .before .before .before .before .before .before .before .before .before .before .before .before .places .given .1) (c .before .before .before .before .before .before .before .before .before .before .before .before .before .put-head .ensures) (c .before .before .before .before .before .before .before .before .put-elements .ensures) (c .before .before .put-empty-at .ensures)
+
+pub put-structure-spec : {M : Type 1} → statement M
+put-structure-spec =
+    tie.close
+    (tie.spec
+    block-requires
+    head-of-requires
+    enum-told
+    enum-known-places
+    put-head-requires
+    put-elements-requires
+    put-empty-at-requires
+    returns
+    same-length
+    same-length-2
+    returns-2)
