@@ -1,0 +1,2 @@
+-- Text in hexadecimal.
+pub mod HexLaws

@@ -1,0 +1,543 @@
+#!/usr/bin/env python3
+"""Prints cases of the program `structure` for every refusal and limit. A convenience, outside the proof.
+
+    python3 tools/own_cases.py > target/own_cases.txt
+
+A case is a comment line with its reason, then a line in the form that tools/pack_cases.py takes. Answers come from
+tools/model.py. What a sheet of 24,576 bytes cannot reach is not here: refusal 3, 8,191 points, a property value of
+65,530 bytes, 16,384 pairs.
+"""
+import math
+import random
+import struct
+
+import model
+import sheet as form
+from sheet import DOUBLE, INTEGER, NODE, NOTHING, POLYGON, TEXT, Coordinate, Property, bits_of
+
+POLICIES = ("nearest", "floor", "ceiling", "strict")
+ZERO = [0] * 12
+DATE = [2024, 2, 29, 23, 59, 59]
+BIG, SMALL = 2147483647, -2147483648
+UP, DOWN = math.inf, -math.inf
+
+
+# ---- builders
+
+
+def real(x, unit=1.0):
+    return Coordinate(DOUBLE, bits_of(x), bits_of(unit))
+
+
+def whole(n, unit=1.0):
+    return Coordinate(INTEGER, n, bits_of(unit))
+
+
+def at(x, y):
+    """A point in unit 1: integers stay integers."""
+    return tuple(whole(v) if isinstance(v, int) else real(v) for v in (x, y))
+
+
+GONE = (NOTHING, NOTHING)
+SQUARE = [at(0, 0), at(10, 0), at(10, 10), at(0, 0)]
+
+
+def polygon(points=SQUARE, layer=1, type=2, properties=()):
+    return form.Shape(POLYGON, layer, type, points, properties)
+
+
+def node(points=(at(0, 0),), layer=1, type=2, properties=()):
+    return form.Shape(NODE, layer, type, points, properties)
+
+
+def path(points=(at(0, 0), at(5, 5)), layer=1, type=2, path_type=255, width=NOTHING, begin=NOTHING, end=NOTHING, properties=()):
+    return form.Path(form.PATH, layer, type, path_type, width, begin, end, points, properties)
+
+
+def text(string=b"T", origin=at(0, 0), layer=1, type=2, vertical=0, horizontal=0, reflection=0, magnification=1.0, degrees=0.0, properties=()):
+    return form.Text(TEXT, layer, type, vertical, horizontal, reflection, bits_of(magnification), bits_of(degrees), origin, string, properties)
+
+
+def reference(columns=1, rows=1, origin=at(0, 0), column=GONE, row=GONE, name=b"B", reflection=0, magnification=1.0, degrees=0.0,
+              sine=0.0, cosine=1.0, properties=()):
+    return form.Reference(form.REFERENCE, name, columns, rows, reflection, bits_of(magnification), bits_of(degrees),
+                          bits_of(sine), bits_of(cosine), origin, column, row, properties)
+
+
+def array(columns=2, rows=2, column=at(10, 0), row=at(0, 10), **others):
+    return reference(columns, rows, column=column, row=row, **others)
+
+
+def given(sheet, policy=0, d=1.0):
+    return bytes([policy]) + struct.pack(">d", d) + sheet
+
+
+def blocks(*elements, name=b"A", stamps=ZERO):
+    return [form.head_bytes(name, stamps)] + [e if isinstance(e, bytes) else form.element_bytes(e) for e in elements]
+
+
+def cell(*elements, policy=0, d=1.0, name=b"A", stamps=ZERO):
+    return given(form.sheet_of_blocks(blocks(*elements, name=name, stamps=stamps)), policy, d)
+
+
+BAD_FORM = b"\6"
+OFF_GRID = node([at(0.5, 0)])
+
+
+# ---- the caller and the pairs: 1 to 4
+
+
+def caller():
+    for policy in (0, 1, 2, 3, 4, 128, 255):
+        yield f"policy {policy}", cell(policy=policy)
+    for d in (math.nan, UP, DOWN, 0.0, -0.0, -1.0, 5e-324, -5e-324, 2.0**-1022, 1.7976931348623157e308, 1e-9):
+        yield f"d {d!r}", cell(d=d)
+    yield "a NaN of another pattern as d", b"\0" + bytes.fromhex("fff0000000000001") + cell()[9:]
+    yield "1 before 2", cell(policy=4, d=math.nan)
+    yield "1 before 4", given(b"", policy=4)
+    yield "2 before 4", given(b"", d=0.0)
+    yield "8 bytes: no answer", bytes(8)
+
+
+def pairs_of(*pairs, rest=b"", count=None):
+    return struct.pack(">I", len(pairs) if count is None else count) + b"".join(struct.pack(">II", *p) for p in pairs) + rest
+
+
+def pairs():
+    head = blocks()[0]
+    size = len(head)
+    for n in range(5):
+        yield f"a sheet of {n} bytes", given(bytes(n))
+    for n in (0, 2, 16384, 16385, 2**32 - 1):
+        yield f"pair count {n} over one pair", given(pairs_of((12, size), rest=head, count=n))
+    for offset in (11, 13, 0, 2**32 - 1):
+        yield f"first offset {offset}, not 12", given(pairs_of((offset, size), rest=head))
+    for length in (0, size - 1, size + 1, 2**32 - 1, 2**32 - 12):
+        yield f"the only block has length {length}, not {size}", given(pairs_of((12, length), rest=head))
+    tail = form.element_bytes(node())
+    many = len(tail)
+    for why, second in (("a gap", (21 + size, many - 1)), ("an overlap", (19 + size, many + 1)), ("length 0", (20 + size, 0)),
+                        ("one byte short of the end", (20 + size, many - 1)), ("one byte past the end", (20 + size, many + 1)),
+                        ("as it should be", (20 + size, many))):
+        yield f"second pair: {why}", given(pairs_of((20, size), second, rest=head + tail))
+    yield "pairs out of order", given(pairs_of((20 + size, many), (20, size), rest=head + tail))
+    yield "an offset and length that wrap around 2^32", given(pairs_of((20, 2**32 - 20), (0, size + many + 20), rest=head + tail))
+    yield "an empty block in the middle", given(pairs_of((28, size), (28 + size, 0), (28 + size, many), rest=head + tail))
+    yield "the last pair's fault before the head's form: 4, not 5", given(pairs_of((20, 1), (21, 2), rest=b"\0\0"))
+    yield "480 elements", cell(*[node()] * 480)
+
+
+# ---- form: 5
+
+
+def cuts(block, form_of):
+    """The block, one byte short of the end of each of its parts."""
+    ends = set()
+
+    class Watched(form.Reader):
+        def take(self, count, what):
+            found = super().take(count, what)
+            ends.add(self.at)
+            return found
+
+    form_of(Watched(block, 0, len(block), 0))
+    return sorted({end - 1 for end in ends if end > 1})
+
+
+KINDS = (("polygon", polygon(properties=[Property(1, b"v")])), ("path", path(width=real(2.0), properties=[Property(1, b"v")])),
+         ("text", text(properties=[Property(1, b"v")])), ("node", node(properties=[Property(1, b"v")])),
+         ("reference", array(properties=[Property(1, b"v")])))
+
+
+def lengths():
+    head = blocks()[0]
+    for end in cuts(head, form.head_form) + [len(head) - 2]:
+        yield f"the head cut after {end} bytes", given(form.sheet_of_blocks([head[:end]]))
+    yield "a byte after the head", given(form.sheet_of_blocks([head + b"\0"]))
+    for name, element in KINDS:
+        block = form.element_bytes(element)
+        yield f"a {name} with a property", cell(block)
+        yield f"a byte after a {name}", cell(block + b"\0")
+        for end in cuts(block, lambda r: form.FORMS[r.number(1, "kind")](r, block[0])):
+            yield f"a {name} cut after {end} bytes", cell(block[:end])
+
+
+def codes():
+    for kind in (0, 6, 17, 33, 49, 255):
+        yield f"element kind {kind}", cell(bytes([kind]) + form.element_bytes(node())[1:])
+    for code in (0, 1, 2, 3, 254, 255):
+        yield f"path type {code}", cell(path(path_type=code))
+    for code in (0, 1, 2, 3, 255):
+        yield f"vertical {code}", cell(text(vertical=code, horizontal=1))
+        yield f"horizontal {code}", cell(text(vertical=1, horizontal=code))
+    for code in (0, 1, 2, 255):
+        yield f"a text's reflection {code}", cell(text(reflection=code))
+        yield f"a reference's reflection {code}", cell(reference(reflection=code))
+
+
+def raw_point(x):
+    return struct.pack(">BHHH", NODE, 1, 2, 1) + x + form.coordinate_bytes(whole(0)) + b"\0\0"
+
+
+def coordinates():
+    one = struct.pack(">d", 1)
+    for kind in (0, 1, 2, 3, 255):
+        yield f"coordinate kind {kind} before zeros", cell(raw_point(bytes([kind]) + bytes(16)))
+    for upper in ("00000001", "01000000", "ffffffff"):
+        yield f"an integer with upper bytes {upper}", cell(raw_point(b"\0" + bytes.fromhex(upper + "fffffffe") + one))
+    yield "an integer of -2", cell(raw_point(b"\0" + bytes.fromhex("00000000fffffffe") + one))
+    absent = b"\2" + bytes(16)
+    for k in (1, 8, 9, 16):
+        mark = bytearray(absent)
+        mark[k] = 0x80 if k in (1, 9) else 1
+        block = bytearray(form.element_bytes(path()))
+        block[6:23] = mark
+        yield f"an absent width whose byte {k} is not zero", cell(bytes(block))
+    for name, element in (("point", node([(NOTHING, whole(0))])), ("point's y", node([(whole(0), NOTHING)])),
+                          ("text's origin", text(origin=(NOTHING, whole(0)))), ("reference's origin", reference(origin=(whole(0), NOTHING)))):
+        yield f"an absent {name}", cell(element)
+    for half in ((NOTHING, whole(0)), (whole(0), NOTHING)):
+        yield "half a column spacing", cell(array(column=half))
+        yield "half a row spacing of a 1 x 1 reference", cell(reference(row=half))
+    for lacks in ("width", "begin", "end"):
+        lengths_there = {n: real(2.0) for n in ("width", "begin", "end") if n != lacks}
+        yield f"a path with no {lacks}", cell(path(**lengths_there))
+
+
+# ---- the head: 6 and 7
+
+
+def stamped(first, second=None):
+    return cell(stamps=list(first) + list(DATE if second is None else second))
+
+
+def stamps():
+    yield "both stamps a date", stamped(DATE)
+    yield "first stamp zero, second a date", stamped([0] * 6)
+    yield "first stamp a date, second zero", stamped(DATE, [0] * 6)
+    yield "twelve numbers, one not zero", cell(stamps=[0] * 11 + [1])
+    for year in (0, 1, 9999, 10000, 32768, 65535):
+        yield f"year {year}", stamped([year, 1, 1, 0, 0, 0])
+    for year in (4, 100, 400, 1600, 1700, 1900, 2000, 2023, 2024, 2100, 2400, 9996):
+        for day in (28, 29, 30):
+            yield f"{day} February {year}", stamped([year, 2, day, 0, 0, 0])
+    for month in (0, 13, 256, 65535):
+        yield f"month {month}", stamped([2023, month, 1, 0, 0, 0])
+    for month in range(1, 13):
+        for day in (0, 1, 30, 31, 32):
+            yield f"day {day} of month {month}", stamped([2023, month, day, 0, 0, 0])
+    for place, name, most in ((3, "hour", 23), (4, "minute", 59), (5, "second", 59)):
+        for value in (0, most, most + 1, 65535):
+            stamp = list(DATE)
+            stamp[place] = value
+            yield f"{name} {value}", stamped(stamp)
+            yield f"second stamp, {name} {value}", stamped(DATE, stamp)
+    yield "6 before 7", cell(name=b"", stamps=[1] * 11 + [60])
+    yield "the head's form before 6", given(form.sheet_of_blocks([form.head_bytes(b"A", [1] * 12) + b"\0"]))
+
+
+NAME_BYTES = b"AZaz09_?$@[`{/:#%>!^ -.\0\x7f\x80\xff"
+
+
+def names():
+    for n in (0, 1, 2, 3, 31, 32, 33, 64):
+        yield f"a cell name of {n} bytes", cell(name=b"N" * n)
+        yield f"a called name of {n} bytes", cell(reference(name=b"N" * n))
+    for byte in NAME_BYTES:
+        yield f"byte 0x{byte:02x} in a cell name", cell(name=b"A" + bytes([byte]))
+        yield f"byte 0x{byte:02x} in a called name", cell(array(name=bytes([byte]) + b"B"))
+    yield "7 of the head before block 1's form", cell(BAD_FORM, name=b"-")
+    yield "7 before 11", cell(reference(0, 0, name=b"-"))
+
+
+# ---- counts, layers, strings: 8 to 12
+
+
+def counts():
+    for n in (0, 1, 2, 3, 4, 5):
+        yield f"a polygon of {n} points", cell(polygon([at(0, 0)] * n))
+        yield f"a path of {n} points", cell(path([at(0, 0)] * n))
+    for n in (0, 1, 2, 49, 50, 51, 300):
+        yield f"a node of {n} points", cell(node([at(0, 0)] * n))
+    for name, make in (("polygon", polygon), ("path", path), ("node", node)):
+        yield f"8 before 9 in a {name}", cell(make([], layer=256, type=256))
+    yield "a point count with no points is 5, not 8", cell(struct.pack(">BHHHH", NODE, 1, 2, 65535, 0))
+    yield "8 before 16 in a path", cell(path([(real(0.0, 0.0), whole(0))]))
+
+
+def layers():
+    for name, make in (("polygon", polygon), ("path", path), ("node", node), ("text", text)):
+        for value in (0, 255, 256, 65535):
+            yield f"a {name}'s layer {value}", cell(make(layer=value))
+            yield f"a {name}'s type {value}", cell(make(type=value))
+    bad = (real(0.0, 0.0), whole(0))
+    yield "9 of the type before 16", cell(polygon([bad] * 4, type=256))
+    yield "9 before a path width's 16", cell(path(layer=256, width=real(1.0, 0.0)))
+    yield "9 before 10 in a text", cell(text(b"x" * 513, layer=256))
+
+
+def strings():
+    for n in (0, 1, 2, 3, 511, 512, 513, 600):
+        yield f"a text of {n} bytes", cell(text(b"t" * n))
+    for n in (0, 1, 2, 3, 125, 126, 127, 1000, 1001):
+        yield f"a property value of {n} bytes", cell(node(properties=[Property(9, b"v" * n)]))
+    for value in (b"\0", b"A\0", b"A\0\0", b"\0A", bytes(range(256)), b"\xff\xfe\x80"):
+        yield f"a text and a value of bytes {value[:4].hex()}..", cell(text(value, properties=[Property(1, value)]))
+    for attribute in (0, 1, 127, 128, 65535):
+        yield f"attribute {attribute}", cell(node(properties=[Property(attribute, b"v"), Property(attribute, b"")]))
+    yield "forty properties", cell(path(properties=[Property(k, b"x" * k) for k in range(40)]))
+    yield "10 before 13 in a text", cell(text(b"t" * 513, magnification=0.0))
+
+
+def grids():
+    for n in (0, 1, 2, 32767, 32768, 65536, 2**31, 2**32 - 1):
+        yield f"{n} columns", cell(array(n, 2, column=at(3, 0)))
+        yield f"{n} rows", cell(array(2, n, row=at(0, -3)))
+    yield "32,767 x 32,767 of spacing 0", cell(array(32767, 32767, column=at(0, 0), row=at(0, 0)))
+    yield "11 before 12", cell(reference(32768, 2))
+    for columns, rows in ((1, 1), (2, 1), (1, 2), (2, 2)):
+        for why, column, row in (("no spacing", GONE, GONE), ("a column spacing", at(4, 0), GONE), ("a row spacing", GONE, at(0, 4))):
+            yield f"{columns} x {rows} with {why}", cell(reference(columns, rows, column=column, row=row))
+    yield "12 before 13", cell(reference(2, 1, magnification=0.0))
+
+
+# ---- transforms: 13 to 15
+
+
+def both(why, **transform):
+    yield f"text: {why}", cell(text(**transform))
+    yield f"reference: {why}", cell(reference(**transform))
+
+
+REALS = (math.nan, UP, 2.0**-260, 2.0**-261, math.nextafter(2.0**-260, 0), math.nextafter(2.0**-260, 1), 2.0**252,
+         math.nextafter(2.0**252, 0), 2.0**251, 5e-324, 1.7976931348623157e308, 0.001, 2.0, 0.1, math.pi)
+
+
+def transforms():
+    for x in REALS:
+        yield from both(f"magnification {x!r}", magnification=x)
+        yield from both(f"degrees {x!r}", degrees=x)
+        yield from both(f"degrees {-x!r}", degrees=-x)
+    for x in (0.0, -0.0, -1.0, -5e-324, -1e308, DOWN, math.nextafter(1, 0), math.nextafter(1, 2)):
+        yield from both(f"magnification {x!r}", magnification=x)
+    for k in range(-9, 10):
+        yield f"magnification 1.5 * 2^{k}, degrees 360 * 2^{k}", cell(array(magnification=1.5 * 2.0**k, degrees=360 * 2.0**k))
+    for reflection in (0, 1):
+        yield from both(f"degrees -0, reflection {reflection}", degrees=-0.0, reflection=reflection)
+    yield from both("13 before the degrees' 14", magnification=-1.0, degrees=math.nan)
+    yield from both("the magnification's 14 before 16", magnification=UP, origin=(real(0.0, 0.0), whole(0)))
+    yield from both("the degrees' 14 before 19", degrees=UP, origin=at(1e10, 0))
+
+
+def turns():
+    for x in (1.0, -1.0, -0.0, 0.5, math.nextafter(1, 2), math.nextafter(-1, -2), UP, DOWN, math.nan, 5e-324):
+        yield f"an array's sine {x!r}", cell(array(sine=x))
+        yield f"an array's cosine {x!r}", cell(array(cosine=x))
+        yield f"a 1 x 1 reference's sine and cosine {x!r}", cell(reference(sine=x, cosine=x))
+    bad = (real(0.0, 0.0), whole(0))
+    yield "14 before 15", cell(array(degrees=math.nan, sine=2.0))
+    yield "15 before the origin's 16", cell(array(sine=2.0, origin=bad))
+    yield "a 1 x 1 reference's spacings are not looked at", cell(reference(column=(real(math.nan, 0.0), real(UP, DOWN)), row=bad))
+
+
+# ---- coordinates: 16 to 20
+
+
+UNITS = (0.0, -0.0, -1.0, math.nan, UP, DOWN, 5e-324, 2.0**-1022, 1e-9, 0.5, 2.0)
+
+
+def units():
+    for unit in UNITS:
+        yield f"an integer of unit {unit!r}", cell(node([(whole(3, unit), whole(0))]))
+        yield f"a double of unit {unit!r}", cell(text(origin=(whole(0), real(3.0, unit))))
+        yield f"an array's row spacing of unit {unit!r}", cell(array(row=(whole(0), whole(3, unit))))
+        yield f"an integer of unit d = {unit!r}", cell(node([(whole(BIG, unit), whole(SMALL, unit))]), d=unit)
+    yield "16 before 17", cell(node([(real(math.nan, 0.0), whole(0))]))
+    yield "an integer in unit d passes though its product overflows", cell(node([(whole(BIG, 2.0**1000), whole(0, 2.0**1000))]), d=2.0**1000)
+    yield "the same as an array's origin is 17", cell(array(origin=(whole(BIG, 2.0**1000), whole(0)), column=at(0, 0), row=at(0, 0)), d=2.0**1000)
+    yield "and 17 before a spacing's 16: no bypass", cell(array(origin=(whole(BIG, 2.0**1000), whole(0)), row=(whole(0, 0.0), whole(0))), d=2.0**1000)
+
+
+def finite():
+    for x in (math.nan, UP, DOWN):
+        yield f"a coordinate {x!r}", cell(node([at(x, 0)]))
+        yield f"a path's end extension {x!r}", cell(path(end=real(x)))
+        yield f"an array's column spacing {x!r}", cell(array(column=at(0, x)))
+    yield "p overflows", cell(node([(real(1e200, 1e200), whole(0))]))
+    yield "s overflows: 17, not 19", cell(node([at(1e300, 0)]), d=1e-300)
+    yield "s overflows, strict: 17, not 18", cell(node([at(1e300, 0)]), d=1e-300, policy=3)
+    huge = 1.7e308
+    yield "a turned spacing overflows", cell(array(column=at(huge, -huge), sine=1.0, cosine=1.0), d=1e300)
+    yield "an endpoint's product overflows, its sum does not", cell(array(2, 1, origin=at(-1e308, 0), column=at(1e308, 0.0), row=GONE), d=1e299)
+    yield "an endpoint's p overflows: 17, not 19", cell(array(3, 1, column=at(1e308, 0.0), row=at(0.0, 0.0)), d=1e299)
+    yield "the same spacing with one column: finite", cell(array(1, 2, column=at(1e308, 0.0), row=at(0.0, 0.0)), d=1e299)
+
+
+VALUES = (0.0, -0.0, 5e-324, -5e-324, 1e-323, -1e-323, 0.5, -0.5, 0.49999999999999994, -0.49999999999999994, 0.5000000000000001, 1.5, -1.5,
+          2.5, -2.5, 2.4999999999999996, 3 + 2.0**-51, 3 + 2.0**-50, 3 - 2.0**-51, 3 - 2.0**-50, -3 - 2.0**-51, -3 - 2.0**-50,
+          1 - 2.0**-53, 1 - 2.0**-52, 1 + 2.0**-52, 1 + 2.0**-51, BIG - 0.25, BIG + 0.25, BIG + 0.5, BIG - 0.5, BIG + 2.0**-21, BIG + 2.0**-22, BIG + 1.0,
+          SMALL - 0.25, SMALL - 0.5, SMALL + 0.5, SMALL - 2.0**-21, SMALL - 2.0**-22, SMALL - 1.0, 2.0**52 + 1, 2.0**53, 1e300, -1e300)
+
+
+def rounding():
+    for x in VALUES:
+        for policy, name in enumerate(POLICIES):
+            yield f"{x!r}, {name}", cell(node([at(x, 0)]), policy=policy)
+    for n in (BIG, SMALL, 1073741824, -1073741824, 1073741823):
+        yield f"integer {n} of unit 2", cell(node([(whole(n, 2.0), whole(0))]))
+        yield f"integer {n} of unit 0.5, strict", cell(node([(whole(0), whole(n, 0.5))]), policy=3)
+    for x in (0.001, 0.0015, 1.0005, 123.456, -99.9995):
+        for policy, name in enumerate(POLICIES):
+            yield f"{x!r} micrometres in nanometres, {name}", cell(node([(real(x, 1e-6), whole(7, 1e-9))]), policy=policy, d=1e-9)
+
+
+def competing():
+    zero_unit = (real(0.0, 0.0), whole(0))
+    yield "18 before 19", cell(node([at(BIG + 0.5, 0)]), policy=3)
+    yield "x's 18 before y's 16 in a text", cell(text(origin=(real(0.5), real(0.0, 0.0))), policy=3)
+    yield "x's 18 before y's 16 in a 1 x 1 reference", cell(reference(origin=(real(0.5), real(0.0, 0.0))), policy=3)
+    yield "y's 16 before x's 18 in an array", cell(array(origin=(real(0.5), real(0.0, 0.0))), policy=3)
+    yield "the origin's 18 before a spacing's 16 in an array", cell(array(origin=at(0.5, 0), column=zero_unit), policy=3)
+    yield "the row spacing's 16 before the column spacing's 18", cell(array(column=at(0.5, 0), row=zero_unit), policy=3)
+    yield "the column spacing's 18 before the row spacing's 19", cell(array(column=at(0.5, 0), row=at(1e10, 0)), policy=3)
+    yield "the column spacing's 19 before the row spacing's 18", cell(array(column=at(1e10, 0), row=at(0.5, 0)), policy=3)
+    yield "a path's width before its points", cell(path([at(0.5, 0), at(0, 0)], width=real(1.0, 0.0)), policy=3)
+    yield "begin before end", cell(path(begin=real(0.5), end=real(1e10)), policy=3)
+    yield "begin passes, end does not", cell(path(begin=whole(1), end=real(1e10)), policy=3)
+    yield "a later point's 19 before 20", cell(polygon([at(0, 0), at(1, 0), at(1, 1), at(1e10, 0)]))
+    yield "18 in block 1 before 5 in block 2", cell(OFF_GRID, BAD_FORM, policy=3)
+    yield "5 in block 1 before 18 in block 2", cell(BAD_FORM, OFF_GRID, policy=3)
+    yield "18 in block 3", cell(node(), polygon(), OFF_GRID, BAD_FORM, policy=3)
+    yield "6 before block 1's form", cell(BAD_FORM, stamps=[1] * 11 + [60])
+
+
+def ends():
+    yield "array endpoint 2,147,483,647", cell(array(1, 2, origin=at(BIG - 20, 0), row=at(10, 0)))
+    yield "array endpoint 2,147,483,648", cell(array(1, 2, origin=at(BIG - 19, 0), row=at(10, 0)))
+    yield "array endpoint -2,147,483,648", cell(array(2, 1, origin=at(0, SMALL + 20), column=at(0, -10)))
+    yield "array endpoint -2,147,483,649", cell(array(2, 1, origin=at(0, SMALL + 19), column=at(0, -10)))
+    yield "32,767 steps of 65,538", cell(array(32767, 1, column=at(65538, 0)))
+    yield "32,767 steps of 65,539 leave 32 bits", cell(array(32767, 1, column=at(65539, 0)))
+    for why, last in (("closed", at(0, 0)), ("open in x", at(1, 0)), ("open in y", at(0, -1)), ("closed by rounding", at(0.4, -0.4)),
+                      ("opened by rounding", at(0.5, 0))):
+        yield f"a polygon {why}", cell(polygon(SQUARE[:3] + [last]))
+    for policy, name in enumerate(POLICIES):
+        yield f"ends 0.3 and 0.6, {name}", cell(polygon([at(0.3, 0)] + SQUARE[1:3] + [at(0.6, 0)]), policy=policy)
+    yield "equal ends off the grid", cell(polygon([at(0.5, 2.5)] + SQUARE[1:3] + [at(0.5, 2.5)]))
+    yield "a path and a node need not close", cell(path([at(0, 0), at(9, 9)]), node([at(0, 0), at(9, 9)]))
+
+
+# ---- the report, arrays, the buffers
+
+
+def report():
+    yield "equal errors: the first stays", cell(path([at(0.5, 1.5), at(-0.5, 2.5)]))
+    yield "a larger error replaces", cell(path([at(0.1, 1.2), at(2.3, 3.4), at(4.4, 5.5)]))
+    yield "width, begin, end", cell(path(width=real(1.1), begin=real(2.3), end=real(3.2)))
+    yield "begin is the worst", cell(path(width=real(1.1), begin=real(2.5), end=real(3.2)))
+    yield "end is the worst", cell(path(width=real(1.1), begin=real(2.3), end=real(-3.5)))
+    yield "a text's origin", cell(text(origin=at(0.25, 7.5)))
+    yield "a 1 x 1 reference's origin", cell(reference(origin=at(0.25, 7)))
+    yield "place 300 of 320", cell(path([at(0.25, 0)] * 300 + [at(0, 0.5)] + [at(0.5, 0)] * 19))
+    yield "entries of elements 1 and 3 alone", cell(node(), OFF_GRID, polygon(), text(origin=at(0.25, 0)), node())
+    yield "an infinite error", cell(node([at(1.7e308, 0)]), d=1e308)
+    yield "an infinite error, then a finite one", cell(node([at(1.7e308, 1.4e308), at(1.6e308, 0)]), d=1e308)
+    yield "s = -2^-1074 counts where its error is above 0", cell(node([at(-5e-324, 5e-324)]), policy=3)
+    yield "p underflows to s = -0", cell(node([at(-5e-324, 0)]), d=1e10)
+    yield "the greatest error is the second entry's", cell(node([at(0.25, 0)]), node([at(0.5, 0)]), node([at(0.125, 0)]))
+
+
+def turned_pair(r):
+    """A spacing and an angle for which mul_add and a product with a sum differ."""
+    while True:
+        a, b, angle = r.uniform(-900, 900), r.uniform(-900, 900), r.uniform(-math.pi, math.pi)
+        sine, cosine = math.sin(angle), math.cos(angle)
+        if model.mul_add(a, cosine, -(b * sine)) != a * cosine - b * sine:
+            return a, b, sine, cosine, math.degrees(angle)
+
+
+def arrays():
+    for policy, name in enumerate(POLICIES):
+        yield f"document 01's array, {name}", cell(array(4, 1, origin=at(0.5, 0.0), column=at(10.5, 0.0), row=GONE), policy=policy)
+        yield f"rows of 10.5, {name}", cell(array(1, 4, origin=at(0.0, 0.5), column=GONE, row=at(0.0, 10.5)), policy=policy)
+    for sine, cosine in ((1.0, 0.0), (0.0, -1.0), (-1.0, 0.0), (0.6, 0.8), (-0.6, 0.8), (1.0, 6.123233995736766e-17)):
+        for policy in (0, 3):
+            yield f"sine {sine}, cosine {cosine}, {POLICIES[policy]}", cell(
+                array(3, 5, origin=at(7, -7), column=at(100, 20), row=at(-30.0, 50.0), sine=sine, cosine=cosine), policy=policy)
+    r = random.Random(45)
+    for k in range(24):
+        a, b, sine, cosine, degrees = turned_pair(r)
+        step = (real(a, 1e-6), real(b, 1e-6)), (real(-b, 1e-6), real(a, 1e-6))
+        yield "an array whose turned spacing needs mul_add", cell(
+            array(r.randrange(2, 50), r.randrange(1, 50), origin=(real(a, 1e-6), whole(r.randrange(9999), 1e-9)), column=step[0],
+                  row=step[1], sine=sine, cosine=cosine, degrees=degrees, magnification=r.choice((1.0, 2.5))), policy=k % 3, d=1e-9)
+    yield "integers in unit d in an array: converted, no entry", cell(array(origin=at(3, 4)))
+    yield "strict, and an endpoint drifts", cell(array(11, 1, column=(real(0.011, 1e-6), real(0.0, 1e-6)), row=GONE), policy=3, d=1e-9)
+
+
+def buffers():
+    def value(n):
+        return node(properties=[Property(1, b"v" * n)])
+
+    for n in (16302, 16303, 16304, 16305):
+        yield f"a structure of {80 + n + n % 2} bytes", cell(value(n))
+    for n in (247, 248, 249):
+        yield f"{n} entries", cell(*[OFF_GRID] * n)
+    yield "21 before 22", cell(value(9000), *[OFF_GRID] * 300)
+    yield "an element's refusal before 21", cell(value(16305), OFF_GRID, policy=3)
+    yield "a sheet of 24,576 bytes", cell(value(53), *[node()] * 479)
+
+
+def any_coordinate(r):
+    if r.random() < 0.4:
+        return whole(r.randrange(-10**6, 10**6), r.choice((1e-9, 1e-9, 1e-6, 1e-10)))
+    return real(r.choice((r.uniform(-500, 500), round(r.uniform(-500, 500), 3), r.randrange(-999, 999) / 2)), r.choice((1e-6, 1e-6, 1e-9)))
+
+
+def any_point(r):
+    return any_coordinate(r), any_coordinate(r)
+
+
+def any_element(r):
+    properties = [Property(r.randrange(128), r.randbytes(r.randrange(9))) for _ in range(r.choice((0, 0, 1, 2)))]
+    layer, kind = r.randrange(256), r.randrange(1, 6)
+    if kind == form.POLYGON:
+        points = [any_point(r) for _ in range(r.randrange(3, 8))]
+        return polygon(points + points[:1], layer, r.randrange(256), properties)
+    if kind == form.PATH:
+        lengths = [any_coordinate(r) if r.random() < 0.6 else NOTHING for _ in range(3)]
+        return path([any_point(r) for _ in range(r.randrange(2, 9))], layer, 7, r.choice((0, 1, 2, 255)), *lengths, properties)
+    turn = {"magnification": r.choice((1.0, 1.0, r.uniform(0.01, 99))), "degrees": r.choice((0.0, 90.0, r.uniform(-360, 360))),
+            "reflection": r.randrange(2), "properties": properties, "origin": any_point(r)}
+    if kind == form.TEXT:
+        return text(r.randbytes(r.randrange(20)), layer=layer, vertical=r.randrange(3), horizontal=r.randrange(3), **turn)
+    if kind == form.NODE:
+        return node([any_point(r) for _ in range(r.randrange(1, 9))], layer, r.randrange(256), properties)
+    angle = math.radians(turn["degrees"])
+    return array(r.choice((1, 2, 100, 3000)), r.choice((1, 3, 50)), any_point(r), any_point(r), sine=math.sin(angle),
+                 cosine=math.cos(angle), **turn)
+
+
+def mixed():
+    r = random.Random(2024)
+    for k in range(60):
+        elements = [any_element(r) for _ in range(r.randrange(1, 7))]
+        yield f"a mixed cell, {POLICIES[k % 3]}", cell(*elements, policy=k % 3, d=1e-9, stamps=DATE + DATE, name=b"MIX_%d" % k)
+
+
+GROUPS = (caller, pairs, lengths, codes, coordinates, stamps, names, counts, layers, strings, grids, transforms, turns, units, finite,
+          rounding, competing, ends, report, arrays, buffers, mixed)
+
+
+def main():
+    form.end_with_the_pipe()
+    number = 0
+    for group in GROUPS:
+        for reason, data in group():
+            print(f"# {reason}")
+            print(f"own-{number:04d} {data.hex() or '-'} {'|'.join(model.answer(data))}")
+            number += 1
+
+
+if __name__ == "__main__":
+    main()

@@ -1,0 +1,109 @@
+#!/usr/bin/env python3
+"""Packs files of stored cases into one binary file for the standard input of the program `vectors`. A convenience, outside the proof.
+
+    pack_cases.py [-o PACK] CASES [CASES ...]
+
+A file of cases is text, one case to a line: a name, the input of the program `structure` in hex (`-` if empty), and the
+lines that it prints, joined by `|`. A line that starts with `#` is a comment. Cases of the files follow one another.
+
+The pack, numbers with the highest byte first; for each case:
+
+    4  n, the length of the input
+    n  the input: policy byte, d in 8 bytes, sheet
+    4  m, the length of the answer
+    m  the answer, whose first byte is 0 where refused and 1 where accepted, then
+  refused:
+    1  number
+    4  block
+  accepted:
+    4  k, the structure's length
+    4  e, the entry count
+    8  the greatest error's bits
+    k  the structure
+  33e  the entries
+
+Inputs under 9 bytes or with a sheet over 24,576 bytes get no answer from the program: they are left out and counted.
+"""
+import argparse
+import struct
+import sys
+
+from sheet import plain
+
+SHORTEST, LONGEST_SHEET, ENTRY = 9, 24576, 33
+
+
+class Bad(Exception):
+    pass
+
+
+def refused_bytes(fields, lines):
+    if len(fields) != 3 or len(lines) != 1:
+        raise Bad("`no` wants a number and a block, and no further line")
+    return struct.pack(">BBI", 0, int(fields[1]), int(fields[2]))
+
+
+def accepted_bytes(fields, lines):
+    if len(fields) != 4 or len(lines) < 2:
+        raise Bad("`ok` wants a length, an entry count and error bits, then the stream")
+    length, count, greatest = int(fields[1]), int(fields[2]), int(fields[3], 16)
+    stream, entries = bytes.fromhex(lines[1]), [bytes.fromhex(e) for e in lines[2:]]
+    if len(stream) != length or len(entries) != count or any(len(e) != ENTRY for e in entries):
+        raise Bad("the stream or the entries are not as long as the first line says")
+    return struct.pack(">BIIQ", 1, length, count, greatest) + stream + b"".join(entries)
+
+
+def packed(line):
+    """The bytes of a case, or None where the program gives no answer."""
+    fields = line.split(" ", 2)
+    if len(fields) != 3:
+        raise Bad("a case is a name, an input and an answer")
+    given = b"" if fields[1] == "-" else bytes.fromhex(fields[1])
+    if len(given) < SHORTEST or len(given) - SHORTEST > LONGEST_SHEET:
+        return None
+    lines = fields[2].split("|")
+    first = lines[0].split(" ")
+    if first[0] not in ("ok", "no"):
+        raise Bad(f"an answer starts with `ok` or `no`, not `{first[0]}`")
+    known = (accepted_bytes if first[0] == "ok" else refused_bytes)(first, lines)
+    return struct.pack(">I", len(given)) + given + struct.pack(">I", len(known)) + known
+
+
+def pack(path):
+    """The packed cases of a file, and how many were left out."""
+    cases, left_out = [], 0
+    with open(path, "rb") as f:
+        for number, line in enumerate(f, 1):
+            if not line.strip() or line.startswith(b"#"):
+                continue
+            try:
+                case = packed(line.rstrip(b"\n").decode("ascii"))
+            except (Bad, ValueError, struct.error) as fault:
+                raise Bad(f"{path}, line {number}: {fault}") from None
+            if case is None:
+                left_out += 1
+            else:
+                cases.append(case)
+    return cases, left_out
+
+
+def main():
+    arguments = argparse.ArgumentParser(description="Packs stored cases for a program's standard input.")
+    arguments.add_argument("cases", nargs="+", help="files of cases")
+    arguments.add_argument("-o", metavar="PACK", help="where to write; else to standard output")
+    given = arguments.parse_args()
+    total, missing = [], 0
+    try:
+        for path in given.cases:
+            cases, left_out = pack(path)
+            total += cases
+            missing += left_out
+        with open(given.o, "wb") if given.o else sys.stdout.buffer as out:
+            out.write(b"".join(total))
+    except (Bad, OSError) as fault:
+        sys.exit(f"pack_cases.py: {plain(fault)}")
+    print(f"{len(total)} cases packed, {missing} left out: short or long", file=sys.stderr)
+
+
+if __name__ == "__main__":
+    main()

@@ -1,0 +1,86 @@
+#!/usr/bin/env python3
+"""Says what a refusal means: number and block, as the program `structure` prints them. A convenience, outside the proof.
+
+    refusal.py NUMBER [BLOCK]     a few lines about one
+    refusal.py                    the whole table
+"""
+import sys
+
+from sheet import end_with_the_pipe
+
+CALLER, SHEET_MAKER, DESIGNER = "the caller", "the sheet maker", "the designer"
+FIRST, LAST = "before anything else", "after every block has passed"
+
+# number: who can cause it, what it means, where it comes in the order, which blocks it can name
+ONCE, HEAD, ANY, ELEMENT = "0", "0", "0 or more", "1 or more"
+TABLE = {
+    1: (CALLER, "the policy is above 3", FIRST, ONCE),
+    2: (CALLER, "the database unit d is not finite and positive", "after 1", ONCE),
+    3: (CALLER, "the sheet is over 16,777,216 bytes (the program says `long` long before)", "after 2", ONCE),
+    4: (SHEET_MAKER, "the pairs are ill-formed: count outside 1 to 16,384, a pair missing, an offset that is not where the block "
+        "before ends, a length of 0, or a last block that does not end with the sheet", "after 3; all pairs before any block", ONCE),
+    5: (SHEET_MAKER, "the block is ill-formed: too short, too long, or a code that is unknown (element kind, coordinate kind, path "
+        "type, presentation, reflection), or a coordinate absent where it may not be", "first in its block", ANY),
+    6: (DESIGNER, "a stamp is no date and time of the years 1 to 9999, and the twelve numbers are not all zero", "in the head, after its 5", HEAD),
+    7: (DESIGNER, "a structure name is not 1 to 32 of A-Z a-z 0-9 _ ? $: in block 0 the cell's own, else the called one",
+        "in the head after 6; in a reference first after its 5", ANY),
+    8: (DESIGNER, "the point count: a polygon has 4 to 8,191, a path 2 to 8,191, a node 1 to 50", "in a polygon, path or node first after its 5", ELEMENT),
+    9: (DESIGNER, "a layer or type is above 255 (a text's type is not limited)", "after 8; in a text first after its 5", ELEMENT),
+    10: (DESIGNER, "a string is too long: a text has at most 512 bytes, a property value at most 65,530",
+         "in a text after 9; a property value last of all in its element", ELEMENT),
+    11: (DESIGNER, "columns or rows are outside 1 to 32,767", "in a reference after 7", ELEMENT),
+    12: (DESIGNER, "more than one column without a column spacing, or more than one row without a row spacing", "after 11", ELEMENT),
+    13: (DESIGNER, "the magnification is 0 or below (minus infinity is 14)", "in a text after 10, in a reference after 12", ELEMENT),
+    14: (DESIGNER, "magnification or degrees are not finite, or no eight-byte real equals them: below 2^-260 in size and not 0, or from 2^252",
+         "after 13; magnification before degrees", ELEMENT),
+    15: (DESIGNER, "an array's sine or cosine is not within -1 to 1", "after 14, before every coordinate", ELEMENT),
+    16: (DESIGNER, "a coordinate's unit is not finite and positive", "coordinate by coordinate, first of 16 to 19; in an array the origin's two come first, "
+         "then the four of the spacings, each time 16 and 17 before 18 and 19", ELEMENT),
+    17: (DESIGNER, "a physical value, or its quotient by d, is not finite", "coordinate by coordinate, after 16", ELEMENT),
+    18: (DESIGNER, "a value is off the grid and the policy is strict", "coordinate by coordinate, after 17", ELEMENT),
+    19: (DESIGNER, "a database value is beyond signed 32 bits", "coordinate by coordinate, after 18; array endpoints last", ELEMENT),
+    20: (DESIGNER, "a polygon's first and last point differ after conversion", "after all points have been converted", ELEMENT),
+    21: (CALLER, "the output is too short for the structure (the program's has 16,384 bytes)", LAST, ONCE),
+    22: (CALLER, "the report is too short for the entries, 33 bytes each (the program's has 8,192 bytes)", "after 21", ONCE),
+}
+
+
+def block_words(block):
+    return "block 0 is the head, or no block at all" if block == 0 else f"block {block} is element {block - 1}, counted from 0"
+
+
+def about(number, block=None):
+    who, meaning, order, blocks = TABLE[number]
+    lines = [f"refusal {number}: {meaning}", f"caused by: {who}", f"order: {order}", "both buffers stay as they were"]
+    if block is not None:
+        lines.append(block_words(block))
+        if blocks == "0" and block or blocks == ELEMENT and not block:
+            lines.append(f"but refusal {number} comes with block {blocks} alone: was this read rightly?")
+    return lines
+
+
+def whole_number(text, what):
+    if not (text.isascii() and text.isdigit() and len(text) < 12):
+        sys.exit(f"refusal.py: {what} is a whole number, not {text}")
+    return int(text)
+
+
+def main():
+    end_with_the_pipe()
+    given = sys.argv[1:]
+    if given and given[0] in ("-h", "--help"):
+        print(__doc__.strip())
+    elif not given:
+        for number, (who, meaning, order, _) in TABLE.items():
+            print(f"{number:2}  {who}: {meaning}. Order: {order}.")
+    elif len(given) > 2:
+        sys.exit("refusal.py: a number, and a block if there is one")
+    else:
+        number = whole_number(given[0], "a refusal")
+        if number not in TABLE:
+            sys.exit(f"refusal.py: there is no refusal {number}; they run from 1 to {max(TABLE)}")
+        print("\n".join(about(number, whole_number(given[1], "a block") if len(given) == 2 else None)))
+
+
+if __name__ == "__main__":
+    main()

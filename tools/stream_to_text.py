@@ -1,0 +1,311 @@
+#!/usr/bin/env python3
+"""Turns a GDSII structure, and report entries, into readable text. A convenience, outside the proof.
+
+    stream_to_text.py [--report] [INPUT]
+
+INPUT is a file; missing or `-`, it is standard input. It holds a structure as bytes, a structure as hex digits, or the
+lines that the program `structure` prints; which of the three, its first bytes show. With `--report` it holds report
+entries of 33 bytes, as bytes or as hex digits.
+
+A structure is read by the grammar of document 01 ("What a structure draws"). Each record gets a line: the byte where it
+starts, its name, and what it holds. Eight-byte reals are written as exact decimals. Damaged input gets a message with
+the byte, after the lines of the records before it, and exit status 1.
+"""
+import argparse
+import re
+import string
+import struct
+import sys
+from fractions import Fraction
+
+from cell_text import quoted
+from sheet import end_with_the_pipe, plain
+
+# code: name, data type, size of the data (None: any even number; -8: any multiple of 8)
+RECORDS = {
+    0x05: ("BGNSTR", 2, 24), 0x06: ("STRNAME", 6, None), 0x07: ("ENDSTR", 0, 0), 0x08: ("BOUNDARY", 0, 0), 0x09: ("PATH", 0, 0),
+    0x0a: ("SREF", 0, 0), 0x0b: ("AREF", 0, 0), 0x0c: ("TEXT", 0, 0), 0x0d: ("LAYER", 2, 2), 0x0e: ("DATATYPE", 2, 2),
+    0x0f: ("WIDTH", 3, 4), 0x10: ("XY", 3, -8), 0x11: ("ENDEL", 0, 0), 0x12: ("SNAME", 6, None), 0x13: ("COLROW", 2, 4),
+    0x15: ("NODE", 0, 0), 0x16: ("TEXTTYPE", 2, 2), 0x17: ("PRESENTATION", 1, 2), 0x19: ("STRING", 6, None), 0x1a: ("STRANS", 1, 2),
+    0x1b: ("MAG", 5, 8), 0x1c: ("ANGLE", 5, 8), 0x21: ("PATHTYPE", 2, 2), 0x2a: ("NODETYPE", 2, 2), 0x2b: ("PROPATTR", 2, 2),
+    0x2c: ("PROPVALUE", 6, None), 0x30: ("BGNEXTN", 3, 4), 0x31: ("ENDEXTN", 3, 4),
+}
+TRANSFORM = ["STRANS?", "MAG?", "ANGLE?"]
+# the records of each element, `?` where one may be missing; properties and ENDEL follow
+ELEMENTS = {
+    "BOUNDARY": ["LAYER", "DATATYPE", "XY"],
+    "NODE": ["LAYER", "NODETYPE", "XY"],
+    "PATH": ["LAYER", "DATATYPE", "PATHTYPE?", "WIDTH?", "BGNEXTN?", "ENDEXTN?", "XY"],
+    "TEXT": ["LAYER", "TEXTTYPE", "PRESENTATION?", *TRANSFORM, "XY", "STRING"],
+    "SREF": ["SNAME", *TRANSFORM, "XY"],
+    "AREF": ["SNAME", *TRANSFORM, "COLROW", "XY"],
+}
+POINTS = {"TEXT": 1, "SREF": 1, "AREF": 3}
+KINDS = {1: "polygon", 2: "path", 3: "text", 4: "node", 5: "reference"}
+FIELDS = ("point", "width", "begin extension", "end extension", "origin", "turned column spacing", "turned row spacing",
+          "column endpoint", "row endpoint")
+AXES = ("x", "y", "")
+ENTRY = 33
+
+
+class Damage(Exception):
+    pass
+
+
+# ---- numbers
+
+
+def decimal(x):
+    """A fraction whose denominator is a power of 2, as an exact decimal."""
+    if x < 0:
+        return "-" + decimal(-x)
+    places = x.denominator.bit_length() - 1
+    digits = str(x.numerator * 5**places).rjust(places + 1, "0")
+    return digits if places == 0 else f"{digits[:-places]}.{digits[-places:]}"
+
+
+def real8(data):
+    """What an eight-byte real is worth."""
+    size = Fraction(int.from_bytes(data[1:], "big"), 2**56) * Fraction(16) ** ((data[0] & 127) - 64)
+    return -size if data[0] & 128 else size
+
+
+def longs(data):
+    return struct.unpack(f">{len(data) // 4}i", data)
+
+
+def points(data):
+    values = longs(data)
+    return list(zip(values[::2], values[1::2]))
+
+
+# ---- one record in words
+
+
+def many(count, what):
+    return f"{count} {what}" if count == 1 else f"{count} {what}s"
+
+
+def stamp(data):
+    first, second = struct.unpack(">6H", data[:12]), struct.unpack(">6H", data[12:])
+    if not any(first + second):
+        return "zero stamps"
+    return ", ".join("{:04d}-{:02d}-{:02d} {:02d}:{:02d}:{:02d}".format(*s) for s in (first, second))
+
+
+def presentation(data):
+    value = int.from_bytes(data, "big")
+    return f"{value} (vertical {value >> 2 & 3}, horizontal {value & 3})"
+
+
+def words_of(name, data):
+    if name == "BGNSTR":
+        return stamp(data)
+    if name == "XY":
+        return " ".join(f"({x}, {y})" for x, y in points(data))
+    if name == "COLROW":
+        columns, rows = struct.unpack(">HH", data)
+        return f"{many(columns, 'column')}, {many(rows, 'row')}"
+    if name == "PRESENTATION":
+        return presentation(data)
+    if name == "STRANS":
+        return {0x8000: "reflected", 0: "not reflected"}.get(int.from_bytes(data, "big"), f"0x{data.hex()}")
+    if name in ("MAG", "ANGLE"):
+        return decimal(real8(data))
+    if name in ("STRNAME", "SNAME", "STRING", "PROPVALUE"):
+        return quoted(data)
+    if name in ("WIDTH", "BGNEXTN", "ENDEXTN"):
+        return str(longs(data)[0])
+    return str(int.from_bytes(data, "big")) if data else ""
+
+
+# ---- records and the grammar
+
+
+def sized(data, size):
+    return len(data) % 8 == 0 if size == -8 else size is None or len(data) == size
+
+
+def next_record(stream, at):
+    """(name, data) of the record at a byte."""
+    left = len(stream) - at
+    if left < 4:
+        raise Damage(f"byte {at}: a record's head has 4 bytes, {left} are left")
+    length, code, kind = struct.unpack_from(">HBB", stream, at)
+    if length < 4 or length % 2:
+        raise Damage(f"byte {at}: a record's length is even and at least 4, not {length}")
+    if code not in RECORDS:
+        raise Damage(f"byte {at + 2}: record code 0x{code:02x} is none of a structure's")
+    name, data_type, size = RECORDS[code]
+    if kind != data_type:
+        raise Damage(f"byte {at + 3}: {name} has data type {data_type}, not {kind}")
+    if length > left:
+        raise Damage(f"byte {at}: {name} has a length of {length} bytes, {left} are left")
+    data = stream[at + 4:at + length]
+    if not sized(data, size):
+        wants = "a multiple of 8" if size == -8 else size
+        raise Damage(f"byte {at + 4}: {name} has {wants} bytes of data, not {len(data)}")
+    return name, data
+
+
+class Walk:
+    """The records of a stream in turn; each that is taken gets a line."""
+
+    def __init__(self, stream, say):
+        self.stream, self.at, self.last, self.say = stream, 0, 0, say
+
+    def peek(self):
+        return next_record(self.stream, self.at)
+
+    def take(self, *expected, indent=2):
+        name, data = self.peek()
+        if name not in expected:
+            raise Damage(f"byte {self.at}: {name} stands where {' or '.join(expected)} belongs")
+        self.say(f"{self.at:6}{' ' * indent}{name:<{18 - indent}}{words_of(name, data)}".rstrip())
+        self.last, self.at = self.at, self.at + 4 + len(data)
+        return name, data
+
+    def structure(self):
+        self.take("BGNSTR")
+        self.take("STRNAME")
+        name, _ = self.take(*ELEMENTS, "ENDSTR")
+        while name != "ENDSTR":
+            self.element(name)
+            name, _ = self.take(*ELEMENTS, "ENDSTR")
+        if self.at != len(self.stream):
+            raise Damage(f"byte {self.at}: {len(self.stream) - self.at} bytes follow ENDSTR")
+
+    def element(self, kind):
+        found = {}
+        for name in ELEMENTS[kind]:
+            wanted = name.rstrip("?")
+            if wanted != name and (self.peek()[0] != wanted or wanted in ("MAG", "ANGLE") and "STRANS" not in found):
+                continue
+            found[wanted] = self.take(wanted, indent=4)[1]
+            self.check(kind, wanted, found)
+        while self.take("PROPATTR", "ENDEL", indent=4)[0] == "PROPATTR":
+            self.take("PROPVALUE", indent=4)
+
+    def check(self, kind, name, found):
+        data = found[name]
+        if name == "STRANS" and data not in (b"\x80\0", b"\0\0"):
+            raise Damage(f"byte {self.last + 4}: STRANS is 0x8000 or 0, not 0x{data.hex()}")
+        if name == "COLROW" and 0 in struct.unpack(">HH", data):
+            raise Damage(f"byte {self.last + 4}: an array has 1 or more columns and rows")
+        if name == "XY" and len(data) // 8 != POINTS.get(kind, len(data) // 8):
+            raise Damage(f"byte {self.last + 4}: XY of {kind} has {POINTS[kind]} points, not {len(data) // 8}")
+        if name == "XY" and kind == "AREF":
+            self.steps(points(data), struct.unpack(">HH", found["COLROW"]))
+
+    def steps(self, corners, counts):
+        steps = []
+        for corner, count, what in zip(corners[1:], counts, ("column", "row")):
+            difference = [corner[k] - corners[0][k] for k in (0, 1)]
+            if difference[0] % count or difference[1] % count:
+                raise Damage(f"byte {self.last + 4}: the {what} step {tuple(difference)} / {count} is not whole")
+            steps.append(f"{what} step ({difference[0] // count}, {difference[1] // count})")
+        self.say(" " * 24 + ", ".join(steps))
+
+
+# ---- report entries
+
+
+def entry_words(data, at=0):
+    index, kind, field, axis, place, count, p, q, error = struct.unpack(">IBBBHIdid", data)
+    if kind not in KINDS or field >= len(FIELDS) or axis >= len(AXES):
+        where, what, value = ((4, "element kind", kind) if kind not in KINDS else
+                              (5, "field", field) if field >= len(FIELDS) else (6, "axis", axis))
+        raise Damage(f"byte {at + where}: report entry: {what} {value} is unknown")
+    spot = f"point {place} {AXES[axis]}" if field == 0 else f"{FIELDS[field]} {AXES[axis]}".rstrip()
+    return f"element {index} ({KINDS[kind]}): {many(count, 'value')} affected, worst {spot}: p {p!r}, q {q}, error {error!r}"
+
+
+def entries(data, say):
+    for at in range(0, len(data), ENTRY):
+        if len(data) - at < ENTRY:
+            raise Damage(f"byte {at}: a report entry has {ENTRY} bytes, {len(data) - at} are left")
+        say(entry_words(data[at:at + ENTRY], at))
+
+
+# ---- input
+
+
+def unhexed(text, what):
+    for at, c in enumerate(text):
+        if c not in string.hexdigits:
+            raise Damage(f"{what}: digit {at} is {c!r}, no hex digit")
+    if len(text) % 2:
+        raise Damage(f"{what}: an odd number of hex digits, {len(text)}")
+    return bytes.fromhex(text)
+
+
+def is_hex(data):
+    return bool(data.strip()) and all(chr(b) in string.hexdigits + string.whitespace for b in data)
+
+
+def raw(data):
+    if not is_hex(data):
+        return data
+    return unhexed("".join(data.decode().split()), "hex digits")
+
+
+def accepted(lines, say):
+    _, length, count, error = lines[0].split(" ")
+    stream = unhexed(lines[1], "line 2")
+    rest = [unhexed(line, f"line {k}") for k, line in enumerate(lines[2:], 3)]
+    if str(len(stream)) != length or str(len(rest)) != count:
+        raise Damage(f"line 1 says {length} bytes and {count} entries; there are {len(stream)} and {len(rest)}")
+    greatest = struct.unpack(">d", unhexed(error, "line 1"))[0]
+    say(f"accepted: {many(len(stream), 'byte')}, {many(len(rest), 'report entry').replace('entrys', 'entries')}, greatest error {greatest!r}")
+    Walk(stream, say).structure()
+    for k, entry in enumerate(rest, 3):
+        if len(entry) != ENTRY:
+            raise Damage(f"line {k}: a report entry has {ENTRY} bytes, not {len(entry)}")
+        say(entry_words(entry))
+
+
+NO_ANSWER = {"short": "no answer: under 9 bytes of input", "long": "no answer: over 24,576 bytes of sheet"}
+
+
+def program_lines(lines, say):
+    """The lines of the program: `ok`, the stream, the entries; or a refusal."""
+    first = lines[0]
+    if first in NO_ANSWER:
+        say(NO_ANSWER[first])
+    elif re.fullmatch(r"no \d+ \d+", first):
+        say("refused: number {1}, block {2} (tools/refusal.py {1} {2} says what that means)".format(*first.split(" ")))
+    elif re.fullmatch(r"ok \d+ \d+ [0-9a-f]{16}", first) and len(lines) > 1:
+        accepted(lines, say)
+    else:
+        raise Damage(f"line 1: `ok` with length, entries and error bits, then a stream, or `no` with number and block, not `{first[:60]}`")
+
+
+def explain(data, report, say):
+    if report:
+        entries(raw(data), say)
+    elif data[:3] in (b"ok ", b"no ") or data.strip() in (b"short", b"long"):
+        program_lines(data.decode("ascii", "replace").rstrip("\n").split("\n"), say)
+    else:
+        Walk(raw(data), say).structure()
+
+
+def main():
+    end_with_the_pipe()
+    arguments = argparse.ArgumentParser(description="Turns a GDSII structure, and report entries, into readable text.")
+    arguments.add_argument("input", nargs="?", default="-", metavar="INPUT", help="missing or -: standard input")
+    arguments.add_argument("--report", action="store_true", help="the input is report entries")
+    given = arguments.parse_args()
+    try:
+        if given.input == "-":
+            data = sys.stdin.buffer.read()
+        else:
+            with open(given.input, "rb") as f:
+                data = f.read()
+        explain(data, given.report, print)
+    except (Damage, OSError) as fault:
+        sys.stdout.flush()
+        sys.exit(f"stream_to_text.py: {plain(fault)}")
+
+
+if __name__ == "__main__":
+    main()
