@@ -1,0 +1,2 @@
+-- Laws of the exported functions' promises.
+pub mod ExportLaws

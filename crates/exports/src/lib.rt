@@ -1,0 +1,74 @@
+// The cell writer for programs in C, Rust and other languages: exports/ has its header and examples.
+// The slices stand first and the numbers last, so that a slice's address and length are two arguments of C side by side, in registers or on the stack.
+// Every place that is lent for an answer is written, also where the cell is refused.
+ghost use Rattle.exports.specs.Numbers.{InNumbers};
+ghost use Rattle.exports.specs.Exports.{MeasuresFor, WritesFor};
+use cell::Answer;
+
+// Puts each of the answer's numbers in its place; returns the refusal's number, or 0.
+fn answer_in(
+    a: Answer,
+    block: &mut usize,
+    length: &mut usize,
+    entries: &mut usize,
+    greatest: &mut f64,
+) -> u8
+    ensures { λ r. ⌜ InNumbers a r (now (block .exit)) (now (length .exit)) (now (entries .exit)) (now (greatest .exit)) ⌝ }
+{
+    match a {
+        Answer::Refused { refusal, block: of } => {
+            *block = of;
+            *length = 0;
+            *entries = 0;
+            *greatest = 0.0;
+            refusal.number()
+        }
+        Answer::Accepted {
+            length: n,
+            entries: k,
+            greatest: g,
+        } => {
+            *block = 0;
+            *length = n;
+            *entries = k;
+            *greatest = g;
+            0
+        }
+    }
+}
+
+// What writing the sheet's cell takes: returns 0, with the structure's length, its entries and the greatest error; or the refusal's number, with its block.
+#[no_mangle]
+pub extern "C" fn ravenvanity_measure_cell(
+    sheet: &[u8],
+    block: &mut usize,
+    length: &mut usize,
+    entries: &mut usize,
+    greatest: &mut f64,
+    policy: u8,
+    d: f64,
+) -> u8
+    ensures { λ r. ⌜ MeasuresFor policy d (now (sheet .entry)) r (now (block .exit)) (now (length .exit)) (now (entries .exit)) (now (greatest .exit)) ⌝ }
+{
+    let a = write::measure_cell(policy, d, sheet);
+    answer_in(a, block, length, entries, greatest)
+}
+
+// Writes the sheet's cell to the start of out and its entries to the start of report: answers as measuring does, or 21 or 22 where one of the two is too short.
+#[no_mangle]
+pub extern "C" fn ravenvanity_write_cell(
+    sheet: &[u8],
+    out: &mut [u8],
+    report: &mut [u8],
+    block: &mut usize,
+    length: &mut usize,
+    entries: &mut usize,
+    greatest: &mut f64,
+    policy: u8,
+    d: f64,
+) -> u8
+    ensures { λ r. ⌜ WritesFor policy d (now (sheet .entry)) (now (out .entry)) (now (report .entry)) (now (out .exit)) (now (report .exit)) r (now (block .exit)) (now (length .exit)) (now (entries .exit)) (now (greatest .exit)) ⌝ }
+{
+    let a = write::write_cell(policy, d, sheet, out, report);
+    answer_in(a, block, length, entries, greatest)
+}

@@ -1,0 +1,88 @@
+// Writes document 01's array: origin (0.5, 0), spacing (10.5, 0), 4 columns, 1 row, to the nearest grid point of d = 1.
+// Prints the structure and the one report entry, and measures first, as a caller who owns the memory does.
+#include "ravenvanity.h"
+#include <stdio.h>
+#include <stdlib.h>
+#include <string.h>
+
+static uint8_t sheet[512];
+static size_t used;
+
+static void put(uint64_t number, int bytes) {
+    for (int i = bytes - 1; i >= 0; i--)
+        sheet[used++] = (uint8_t)(number >> (8 * i));
+}
+
+static void put_double(double value) {
+    uint64_t bits;
+    memcpy(&bits, &value, 8);
+    put(bits, 8);
+}
+
+static void put_coordinate(double value) { // in the unit 1
+    put(1, 1);
+    put_double(value);
+    put_double(1);
+}
+
+static void put_head(void) {
+    put(1, 2), put('A', 1); // the name
+    for (int i = 0; i < 12; i++)
+        put(0, 2); // no stamps
+}
+
+static void put_array(void) {
+    put(5, 1);
+    put(1, 2), put('B', 1); // the cell that it calls
+    put(4, 4), put(1, 4);   // columns, rows
+    put(0, 1);              // no reflection
+    put_double(1), put_double(0), put_double(0), put_double(1); // magnification, degrees, sine, cosine
+    put_coordinate(0.5), put_coordinate(0);
+    put_coordinate(10.5), put_coordinate(0);
+    put_coordinate(0), put_coordinate(0);
+    put(0, 2); // no properties
+}
+
+static void put_pair(size_t at, size_t offset, size_t length) {
+    size_t end = used;
+    used = at;
+    put(offset, 4), put(length, 4);
+    used = end;
+}
+
+static void print_hex(const uint8_t *bytes, size_t length) {
+    for (size_t i = 0; i < length; i++)
+        printf("%02x", bytes[i]);
+    printf("\n");
+}
+
+int main(void) {
+    put(2, 4);
+    used += 16;
+    size_t head = used;
+    put_head();
+    size_t array = used;
+    put_array();
+    put_pair(4, head, array - head);
+    put_pair(12, array, used - array);
+
+    size_t block, length, entries;
+    double greatest;
+    uint8_t number = ravenvanity_measure_cell(sheet, used, &block, &length, &entries, &greatest, 0, 1);
+    if (number != 0) {
+        printf("no %d %zu\n", number, block);
+        return 1;
+    }
+    size_t report_length = entries * RAVENVANITY_ENTRY_LENGTH;
+    uint8_t *out = malloc(length), *report = malloc(report_length + 1);
+    if (!out || !report)
+        return 1;
+    number = ravenvanity_write_cell(sheet, used, out, length, report, report_length, &block, &length, &entries, &greatest, 0, 1);
+    printf("%d %zu %zu %g\n", number, length, entries, greatest);
+    print_hex(out, length);
+    print_hex(report, report_length);
+    number = ravenvanity_write_cell(sheet, used, out, length - 1, report, report_length, &block, &length, &entries, &greatest, 0, 1);
+    printf("one byte less: %d\n", number);
+    free(out), free(report);
+    return 0;
+}

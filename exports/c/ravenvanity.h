@@ -1,0 +1,42 @@
+/* The proved GDSII cell writer: document 01 has the cell sheet, the refusals and the report entry.
+ *
+ * No pointer may be NULL, not even with length 0; the sheet, the two buffers and the four answers must not overlap.
+ * Nothing else is asked of a caller: every sheet, number and length has an answer. Nothing is kept between calls, no
+ * memory is taken, and threads may call at the same time.
+ *
+ * policy: 0 nearest, 1 floor, 2 ceiling, 3 strict. d: the database unit.
+ * Both return 0 where the cell is accepted, else the refusal's number, 1 to 22. All four answers are always written:
+ *     accepted: *block = 0, *length and *entries of the structure and the report, *greatest error (0 if none)
+ *     refused:  *block (0 if none), *length = 0, *entries = 0, *greatest = 0
+ */
+#ifndef RAVENVANITY_H
+#define RAVENVANITY_H
+
+#include <stddef.h>
+#include <stdint.h>
+
+#ifdef __cplusplus
+extern "C" {
+#endif
+
+#define RAVENVANITY_ENTRY_LENGTH 33
+#define RAVENVANITY_MAX_SHEET 16777216
+
+/* What writing takes: a report of *entries * RAVENVANITY_ENTRY_LENGTH bytes and an output of *length are enough. */
+uint8_t ravenvanity_measure_cell(const uint8_t *sheet, size_t sheet_length,
+                                 size_t *block, size_t *length, size_t *entries, double *greatest,
+                                 uint8_t policy, double d);
+
+/* Writes the structure to the start of out and the entries to the start of report; the bytes after them stay, and
+ * where the cell is refused all bytes of both. 21: out is too short; 22: report is too short. */
+uint8_t ravenvanity_write_cell(const uint8_t *sheet, size_t sheet_length,
+                               uint8_t *out, size_t out_length,
+                               uint8_t *report, size_t report_length,
+                               size_t *block, size_t *length, size_t *entries, double *greatest,
+                               uint8_t policy, double d);
+
+#ifdef __cplusplus
+}
+#endif
+
+#endif

@@ -1,0 +1,591 @@
+//! Makes inputs: a policy, a database unit and a sheet, whole or damaged.
+use crate::random::{Random, stepped};
+use crate::sheet::{Body, Coordinate, Element, Head, Place, Property, Turn, element_block, head_block, sheet_of};
+use gdsr::Radians;
+
+pub struct Input {
+    pub policy: u8,
+    pub d: f64,
+    pub sheet: Vec<u8>,
+    pub damaged: bool,
+}
+
+/// What a cell's numbers are made from.
+struct Maker<'a> {
+    random: &'a mut Random,
+    d: f64,
+    /// So many of a thousand choices are beyond a limit or otherwise to be refused.
+    wild: usize,
+    /// Numbers on the grid alone, as strict asks.
+    on_grid: bool,
+    /// Arrays with sines and cosines of no angle.
+    any_pair: bool,
+}
+
+const TINY: f64 = f64::from_bits(1);
+
+impl Maker<'_> {
+    fn is_wild(&mut self) -> bool {
+        let wild = self.wild;
+        self.random.often(wild)
+    }
+
+    // ---- coordinates
+
+    fn bad_unit(&mut self) -> f64 {
+        self.random.pick(&[0.0, -0.0, -1.0, -1e-9, f64::NAN, f64::INFINITY, f64::NEG_INFINITY, -TINY])
+    }
+
+    fn good_unit(&mut self) -> f64 {
+        let d = self.d;
+        let near = stepped(d, self.random.pick(&[-1, 1]));
+        let any = 2f64.powi(self.random.below(2001) as i32 - 1000);
+        let far = if self.random.often(300) { any } else { d };
+        let unit = self.random.pick(&[d, far, 1.0, 1e-9, 1e-6, d * 2.0, d / 2.0, d * 3.0, d * 1000.0, d / 1000.0, near]);
+        if unit.is_finite() && unit > 0.0 { unit } else { d }
+    }
+
+    /// What value / d is to be, about.
+    fn scaled(&mut self) -> f64 {
+        let whole = match self.random.below(6) {
+            0 => self.random.between(0, 3) as f64,
+            1 => self.random.between(0, 100_000) as f64,
+            2 => self.random.between(0, 2_147_483_000) as f64,
+            3 => (1_u64 << self.random.below(31)) as f64,
+            4 => 2_147_483_647.0 - self.random.below(3) as f64,
+            _ => self.random.between(0, 1_000) as f64,
+        };
+        let whole = if self.random.often(500) { -whole } else { whole };
+        if self.on_grid {
+            return whole;
+        }
+        match self.random.below(8) {
+            0..=2 => whole,
+            3 => whole + 0.5,
+            4 => whole - 0.5,
+            5 => whole + self.random.pick(&[0.25, -0.25, 0.75, 0.1, -0.3, 0.001]),
+            6 => whole * self.random.unit(),
+            _ => self.random.unit(),
+        }
+    }
+
+    fn limit(&mut self) -> f64 {
+        let limit = self.random.pick(&[2_147_483_647.0, -2_147_483_648.0, 2_147_483_648.0, -2_147_483_649.0]);
+        limit + self.random.pick(&[0.0, 0.25, 0.5, 0.75, -0.25, -0.5, -0.75, 1.0, -1.0])
+    }
+
+    /// A double that is not of the ordinary.
+    fn odd_double(&mut self) -> f64 {
+        let odd = [
+            TINY,
+            -TINY,
+            TINY * 2.0,
+            f64::MIN_POSITIVE,
+            -f64::MIN_POSITIVE,
+            0.0,
+            -0.0,
+            1e300,
+            -1e300,
+            f64::MAX,
+            f64::MIN,
+            f64::NAN,
+            f64::INFINITY,
+            f64::NEG_INFINITY,
+            4_503_599_627_370_496.5,
+            0.499_999_999_999_999_94,
+            -0.499_999_999_999_999_94,
+        ];
+        match self.random.below(4) {
+            0 => f64::from_bits(self.random.next()),
+            1 => f64::from_bits(self.random.next() >> 12),
+            _ => self.random.pick(&odd),
+        }
+    }
+
+    fn double(&mut self) -> Coordinate {
+        let unit = self.good_unit();
+        let scaled = if self.is_wild() || self.random.often(10) { self.limit() } else { self.scaled() };
+        let value = scaled * self.d / unit;
+        let steps =
+            if self.on_grid { self.random.pick(&[0, 0, 0, 0, 1, -1]) } else { self.random.pick(&[0, 0, 0, 1, -1, 2, -2, 3]) };
+        Coordinate::Double { value: stepped(value, steps), unit }
+    }
+
+    fn integer(&mut self) -> Coordinate {
+        let unit = if self.on_grid || self.random.often(600) { self.d } else { self.good_unit() };
+        let value = match self.random.below(5) {
+            0 => self.random.pick(&[i32::MAX, i32::MIN, i32::MAX - 1, i32::MIN + 1, 0, 1, -1]),
+            1 => self.random.next() as i32,
+            _ => self.random.below(200_001) as i32 - 100_000,
+        };
+        Coordinate::Integer { value, unit }
+    }
+
+    fn tiny_double(&mut self) -> Coordinate {
+        let value = self.random.pick(&[0.0, -0.0, TINY, -TINY, TINY * 2.0, -2.0 * TINY, self.d / 2.0, -self.d / 2.0, self.d]);
+        Coordinate::Double { value, unit: 1.0 }
+    }
+
+    fn coordinate(&mut self) -> Coordinate {
+        if self.is_wild() {
+            return match self.random.below(3) {
+                0 => Coordinate::Double { value: self.odd_double(), unit: self.good_unit() },
+                1 => Coordinate::Double { value: self.random.unit(), unit: self.bad_unit() },
+                _ => Coordinate::Integer { value: self.random.next() as i32, unit: self.bad_unit() },
+            };
+        }
+        match self.random.below(20) {
+            0 if !self.on_grid => self.tiny_double(),
+            1..=7 => self.integer(),
+            _ => self.double(),
+        }
+    }
+
+    fn place(&mut self) -> Place {
+        [self.coordinate(), self.coordinate()]
+    }
+
+    // ---- lists and strings
+
+    fn points(&mut self, least: usize, greatest: usize) -> Vec<Place> {
+        let count = if self.is_wild() {
+            self.random.pick(&[least - 1, least, greatest, greatest + 1, 0])
+        } else if self.random.often(4) {
+            self.random.pick(&[greatest, greatest - 1])
+        } else {
+            self.random.between(least, (least + 8).min(greatest))
+        };
+        if count <= 60 {
+            return (0..count).map(|_| self.place()).collect();
+        }
+        // long lists repeat a few points, so that most of them are accepted
+        let wild = std::mem::replace(&mut self.wild, 0);
+        let few: Vec<Place> = (0..9).map(|_| self.place()).collect();
+        self.wild = wild;
+        (0..count).map(|i| few[i % few.len()]).collect()
+    }
+
+    fn closed(&mut self, mut points: Vec<Place>) -> Vec<Place> {
+        let Some(first) = points.first().copied() else {
+            return points;
+        };
+        let last = points.len() - 1;
+        if self.is_wild() || self.random.often(10) {
+            return points;
+        }
+        points[last] = first;
+        if let Coordinate::Double { value, unit } = first[0]
+            && self.random.often(100)
+        {
+            // ends that differ before conversion, and may still agree after it
+            points[last][0] = Coordinate::Double { value: stepped(value, self.random.pick(&[1, -1, 5])), unit };
+        }
+        points
+    }
+
+    fn name(&mut self) -> Vec<u8> {
+        const LETTERS: &[u8] = b"ABCXYZabcxyz0123456789_?$";
+        let length = if self.is_wild() {
+            self.random.pick(&[0, 1, 31, 32, 33, 40])
+        } else {
+            let length = self.random.between(1, 9);
+            self.random.pick(&[length, length, length, 31, 32])
+        };
+        let mut name: Vec<u8> = (0..length).map(|_| self.random.pick(LETTERS)).collect();
+        if self.is_wild() && length > 0 {
+            let at = self.random.below(length);
+            name[at] = self.random.pick(b" -.@[`{/:>#\0\x7f");
+        }
+        if self.random.often(self.wild / 4) {
+            name.extend("é".as_bytes());
+        }
+        name
+    }
+
+    /// UTF-8 of about this length, odd or even, with zero bytes at times.
+    fn string(&mut self, greatest: usize) -> Vec<u8> {
+        let length = if self.is_wild() {
+            self.random.pick(&[greatest - 1, greatest, greatest + 1])
+        } else {
+            match self.random.below(12) {
+                0 => 0,
+                1 => 1,
+                2 if greatest < 1000 => greatest,
+                3 if greatest < 1000 => greatest - 1,
+                _ => self.random.between(0, 20),
+            }
+        };
+        let mut text = Vec::new();
+        while text.len() < length {
+            let letter = self.random.pick(&["a", "B", "7", " ", "é", "Ω", "𝄞", "\0", "\n"]);
+            text.extend(if text.len() + letter.len() <= length { letter } else { "z" }.as_bytes());
+        }
+        text
+    }
+
+    fn properties(&mut self) -> Vec<Property> {
+        let count = if self.random.often(700) { 0 } else { self.random.between(1, 4) };
+        (0..count)
+            .map(|_| {
+                let attribute = match self.random.below(4) {
+                    0 => self.random.pick(&[0, 1, 127, 128, 255, 32767, 32768, 65535]),
+                    _ => self.random.next() as u16,
+                };
+                let value = self.value();
+                Property { attribute, value }
+            })
+            .collect()
+    }
+
+    /// A property's value: seldom at its limit, since it is long.
+    fn value(&mut self) -> Vec<u8> {
+        if self.random.often(6) {
+            return vec![b'v'; self.random.pick(&[65_529, 65_530, 65_531, 65_535])];
+        }
+        let wild = std::mem::replace(&mut self.wild, 0);
+        let value = self.string(65_530);
+        self.wild = wild;
+        value
+    }
+
+    fn number(&mut self) -> u16 {
+        if self.is_wild() {
+            return self.random.pick(&[254, 255, 256, 257, 32768, 65535]);
+        }
+        match self.random.below(4) {
+            0 => self.random.pick(&[0, 1, 254, 255]),
+            _ => self.random.below(256) as u16,
+        }
+    }
+
+    // ---- turns
+
+    fn angle(&mut self) -> f64 {
+        use std::f64::consts::PI;
+        if self.is_wild() {
+            return match self.random.below(3) {
+                0 => self.odd_double(),
+                1 => stepped(2f64.powi(252) / 57.295_779_513_082_32, self.random.below(9) as i64 - 4),
+                _ => stepped(2f64.powi(-260) / 57.295_779_513_082_32, self.random.below(9) as i64 - 4),
+            };
+        }
+        match self.random.below(8) {
+            0..=2 => 0.0,
+            3 => -0.0,
+            4 => PI / 2.0 * (self.random.below(9) as f64 - 4.0),
+            5 => PI / 12.0 * (self.random.below(49) as f64 - 24.0),
+            6 => self.random.unit() * 2.0 * PI,
+            _ => self.random.unit() * self.random.pick(&[1e-9, 1.0, 1e5, 1e-100, 1e20]),
+        }
+    }
+
+    fn magnification(&mut self) -> f64 {
+        if self.is_wild() {
+            let near = stepped(self.random.pick(&[2f64.powi(252), 2f64.powi(-260)]), self.random.below(5) as i64 - 2);
+            let odd = self.odd_double();
+            return self.random.pick(&[near, odd, 0.0, -0.0, -1.0, f64::NEG_INFINITY, -1e300, f64::NAN]);
+        }
+        let near_one = stepped(1.0, self.random.below(3) as i64 - 1);
+        let any = (self.random.unit() * 300.0).exp2();
+        self.random.pick(&[1.0, 1.0, 1.0, 2.0, 0.5, 0.1, 16.0, 15.999, near_one, any.clamp(1e-70, 1e70)])
+    }
+
+    fn turn(&mut self) -> (Turn, f64) {
+        let angle = self.angle();
+        let degrees = Radians::new(angle).to_degrees().value();
+        let turn = Turn { reflection: self.random.often(300), magnification: self.magnification(), degrees };
+        (turn, angle)
+    }
+
+    // ---- elements
+
+    fn shape(&mut self, kind: u8) -> Body {
+        let points = if kind == 1 {
+            let points = self.points(4, 8191);
+            self.closed(points)
+        } else {
+            self.points(1, 50)
+        };
+        Body::Shape { kind, layer: self.number(), data_type: self.number(), points }
+    }
+
+    fn path(&mut self) -> Body {
+        let path_type = self.random.pick(&[None, Some(0), Some(1), Some(2)]);
+        let mut length = || if self.random.often(500) { None } else { Some(()) };
+        let present = [length(), length(), length()];
+        let lengths = present.map(|length| length.map(|()| self.coordinate()));
+        Body::Path { layer: self.number(), data_type: self.number(), path_type, lengths, points: self.points(2, 8191) }
+    }
+
+    fn text(&mut self) -> Body {
+        let presentation = [self.random.below(3) as u8, self.random.below(3) as u8];
+        let (turn, _) = self.turn();
+        Body::Text {
+            layer: self.number(),
+            text_type: self.random.next() as u16,
+            presentation,
+            turn,
+            origin: self.place(),
+            value: self.string(512),
+        }
+    }
+
+    fn count(&mut self) -> u32 {
+        if self.is_wild() {
+            return self.random.pick(&[0, 1, 2, 32_767, 32_768, 65_536, u32::MAX, 1 << 31]);
+        }
+        match self.random.below(6) {
+            0 | 1 => 1,
+            2 => self.random.pick(&[2, 3, 32_767, 32_766, 16_384]),
+            3 => self.random.between(1, 32_767) as u32,
+            _ => self.random.between(1, 20) as u32,
+        }
+    }
+
+    /// A spacing whose endpoints mostly stay within 32 bits.
+    fn spacing(&mut self, count: u32) -> Place {
+        if self.random.often(50) {
+            return self.place();
+        }
+        let reach = 1_000_000_000.0 / f64::from(count.clamp(1, 40_000));
+        let mut axis = || {
+            let scaled = match self.random.below(4) {
+                0 => 0.0,
+                1 => (reach * self.random.unit()).round(),
+                2 => (reach * self.random.unit()).round() + 0.5,
+                _ => reach * self.random.unit(),
+            };
+            let scaled = if self.on_grid { scaled.round() } else { scaled };
+            let unit = self.good_unit();
+            if self.random.often(200) {
+                return Coordinate::Integer { value: scaled as i32, unit: self.d };
+            }
+            Coordinate::Double { value: scaled * self.d / unit, unit }
+        };
+        [axis(), axis()]
+    }
+
+    /// A near origin, so that endpoints mostly stay within 32 bits.
+    fn array_origin(&mut self) -> Place {
+        if self.random.often(200) { self.place() } else { self.spacing(100_000) }
+    }
+
+    /// The angle's pair; where any will do, at times another; seldom one that is refused.
+    fn pair(&mut self, own: [f64; 2]) -> [f64; 2] {
+        if self.random.often(self.wild) {
+            let beyond = self.random.pick(&[stepped(1.0, 1), -stepped(1.0, 1), 2.0, -1e300, f64::NAN, f64::INFINITY, 1.0]);
+            return if self.random.often(500) { [beyond, own[1]] } else { [own[0], beyond] };
+        }
+        if !self.any_pair || self.random.often(300) {
+            return own;
+        }
+        let mut number = || {
+            let any = self.random.unit();
+            let small = any * 2f64.powi(-(self.random.below(1074) as i32));
+            self.random.pick(&[0.0, -0.0, 1.0, -1.0, 0.5, -0.25, 0.6, 0.8, stepped(1.0, -1), TINY, small, any, any, any])
+        };
+        [number(), number()]
+    }
+
+    /// An origin and spacings in which the two products of a turn, or an endpoint's product and sum, cancel to their last bits.
+    fn cancelling(&mut self, counts: [u32; 2], pair: [f64; 2]) -> (Place, [Option<Place>; 2]) {
+        let metres = |value| Coordinate::Double { value, unit: 1.0 };
+        let [sine, cosine] = pair;
+        let mut turned = [0.0; 2];
+        let spacings = [0, 1].map(|at| {
+            let reach = 100_000_000 / counts[at].clamp(1, 40_000) as usize;
+            let size = (1 + self.random.below(reach)) as f64 * self.d;
+            let off = size * self.random.unit();
+            let [a, b] = match self.random.below(3) {
+                0 => [sine * size, cosine * size],
+                1 => [cosine * size, -sine * size],
+                _ => [size, off],
+            };
+            if at == 0 {
+                turned = [a.mul_add(cosine, -(b * sine)), a.mul_add(sine, b * cosine)];
+            }
+            Some([metres(a), metres(b)])
+        });
+        let back = turned.map(|step| -step * f64::from(counts[0]));
+        let steps = self.random.pick(&[0, 0, 1, -1]);
+        let origin =
+            if self.random.often(500) { back.map(|value| metres(stepped(value, steps))) } else { [metres(0.0), metres(0.0)] };
+        (origin, spacings)
+    }
+
+    /// An array whose first product lies exactly between two doubles, so that the least second product decides the rounding.
+    fn between_doubles(&mut self) -> Body {
+        let metres = |value| Coordinate::Double { value, unit: 1.0 };
+        let (first, second) = (67_108_865.0, 134_217_729.0 / 268_435_456.0);
+        let size = self.d * 2f64.powi(self.random.below(30) as i32 - 26);
+        let least = self.random.unit() * 2f64.powi(-(self.random.below(1074) as i32));
+        let degrees = Radians::new(self.random.unit()).to_degrees().value();
+        let part = self.d * self.random.unit();
+        let other = self.random.pick(&[0.0, self.d, part, size]);
+        let pair = self.random.pick(&[[least, second], [second, least], [-second, least], [least, -second], [0.0, second]]);
+        let spacing = self.random.pick(&[[first * size, other], [other, first * size], [-first * size, other]]);
+        Body::Reference {
+            name: b"B".to_vec(),
+            counts: [1, self.random.between(2, 5) as u32],
+            turn: Turn { reflection: false, magnification: 1.0, degrees },
+            pair,
+            origin: [metres(0.0), metres(0.0)],
+            spacings: [Some(spacing.map(metres)), Some([metres(0.0), metres(0.0)])],
+        }
+    }
+
+    fn reference(&mut self) -> Body {
+        if self.any_pair && self.random.often(60) {
+            return self.between_doubles();
+        }
+        let single = self.random.often(300);
+        let counts = if single { [1, 1] } else { [self.count(), self.count()] };
+        let (turn, angle) = self.turn();
+        let (sine, cosine) = angle.sin_cos();
+        let pair = self.pair([sine, cosine]);
+        if !single && self.random.often(250) {
+            let (origin, spacings) = self.cancelling(counts, pair);
+            return Body::Reference { name: self.name(), counts, turn, pair, origin, spacings };
+        }
+        let spacings = counts.map(|count| {
+            let absent = if count > 1 { self.is_wild() } else { self.random.often(500) };
+            if absent { None } else { Some(self.spacing(count)) }
+        });
+        let origin = if single { self.place() } else { self.array_origin() };
+        Body::Reference { name: self.name(), counts, turn, pair, origin, spacings }
+    }
+
+    fn element(&mut self) -> Element {
+        let body = match self.random.below(6) {
+            0 => self.shape(1),
+            1 => self.path(),
+            2 => self.text(),
+            3 => self.shape(4),
+            _ => self.reference(),
+        };
+        Element { body, properties: self.properties() }
+    }
+
+    fn stamp(&mut self) -> [u16; 6] {
+        let year = match self.random.below(3) {
+            0 => self.random.pick(&[1, 4, 100, 400, 1900, 2000, 2024, 2100, 9999]),
+            _ => self.random.between(1, 9999),
+        } as u16;
+        let mut stamp = [
+            year,
+            self.random.between(1, 12) as u16,
+            self.random.between(1, 28) as u16,
+            self.random.between(0, 23) as u16,
+            self.random.between(0, 59) as u16,
+            self.random.between(0, 59) as u16,
+        ];
+        if self.random.often(300) {
+            // the ends of months, February's above all
+            stamp[1] = self.random.pick(&[2, 2, 2, 4, 6, 9, 11, 1, 12]);
+            stamp[2] = if self.is_wild() { self.random.between(28, 32) as u16 } else { 28 };
+        }
+        if self.is_wild() {
+            let at = self.random.below(6);
+            stamp[at] = self.random.pick(&[0, 10_000, 13, 32, 24, 60, 59, 32_767, 32_768, 65_535]);
+        }
+        stamp
+    }
+
+    fn head(&mut self) -> Head {
+        let mut stamps = [0; 12];
+        if self.random.often(600) {
+            stamps[..6].copy_from_slice(&self.stamp());
+            stamps[6..].copy_from_slice(&self.stamp());
+            if self.random.often(self.wild / 4) {
+                stamps[..6].fill(0);
+            }
+        }
+        Head { name: self.name(), stamps }
+    }
+}
+
+// ---- damage
+
+/// One fault in the blocks, whose pairs then fit again, or in the bytes of the sheet.
+fn damage(random: &mut Random, blocks: &mut Vec<Vec<u8>>) -> Vec<u8> {
+    let k = random.below(blocks.len());
+    let length = blocks[k].len();
+    match random.below(12) {
+        0 => blocks[k].push(random.next() as u8),
+        1 => blocks[k].truncate(length - 1),
+        2 => blocks[k].truncate(random.below(length)),
+        3 => blocks[k][0] = random.pick(&[0, 1, 2, 3, 4, 5, 6, 255]),
+        4 | 5 => blocks[k][random.below(length)] ^= 1 << random.below(8),
+        6 => blocks[k][random.below(length)] = random.pick(&[0, 1, 2, 3, 127, 128, 255]),
+        7 => {
+            blocks[k].remove(random.below(length));
+        }
+        8 => blocks[k].insert(random.below(length), random.next() as u8),
+        9 => {
+            let other = blocks[random.below(blocks.len())].clone();
+            blocks.push(other);
+        }
+        _ => return damaged_bytes(random, sheet_of(blocks)),
+    }
+    sheet_of(blocks)
+}
+
+fn damaged_bytes(random: &mut Random, mut sheet: Vec<u8>) -> Vec<u8> {
+    match random.below(5) {
+        0 => sheet.truncate(random.below(sheet.len())),
+        1 => sheet.push(random.next() as u8),
+        2 => {
+            let at = random.below(sheet.len().min(40));
+            sheet[at] ^= 1 << random.below(8);
+        }
+        3 => {
+            let at = random.below(sheet.len());
+            sheet[at] = random.next() as u8;
+        }
+        _ => {
+            let pairs = u32::from_be_bytes([sheet[0], sheet[1], sheet[2], sheet[3]]) as i64;
+            let count = random.pick(&[0, pairs - 1, pairs + 1, 16_384, 16_385, 0xffff_ffff, 0x2000_0000]);
+            sheet[..4].copy_from_slice(&(count as u32).to_be_bytes());
+        }
+    }
+    sheet
+}
+
+// ---- whole inputs
+
+fn database_unit(random: &mut Random) -> f64 {
+    if random.often(8) {
+        return random.pick(&[0.0, -0.0, -1.0, f64::NAN, f64::INFINITY, f64::NEG_INFINITY]);
+    }
+    match random.below(12) {
+        0..=3 => 1.0,
+        4 | 5 => 1e-9,
+        6 => 1e-6,
+        7 => random.pick(&[2f64.powi(-30), 1e-3, 0.1, 3.0, 1e-10]),
+        8 => random.pick(&[TINY, TINY * 3.0, f64::MIN_POSITIVE, f64::MIN_POSITIVE / 2.0, stepped(f64::MIN_POSITIVE, 1)]),
+        9 => random.pick(&[1e300, f64::MAX, f64::MAX / 2.0, 1e250, 1e308]),
+        10 => f64::from_bits(random.next() >> 1).abs().clamp(TINY, f64::MAX),
+        _ => random.unit().abs().max(1e-12),
+    }
+}
+
+pub fn input(random: &mut Random, any_pair: bool) -> Input {
+    let policy = if random.often(4) { random.pick(&[4, 5, 128, 255]) } else { random.below(4) as u8 };
+    let d = database_unit(random);
+    let wild = random.pick(&[0, 0, 0, 0, 0, 12, 12, 40, 250]);
+    let on_grid = random.often(if policy == 3 { 850 } else { 150 });
+    let d_for = if d.is_finite() && d > 0.0 { d } else { 1.0 };
+    let count = match random.below(40) {
+        0 => random.between(20, 60),
+        1..=9 => random.between(3, 8),
+        _ => random.between(0, 3),
+    };
+    let mut maker = Maker { random, d: d_for, wild, on_grid, any_pair };
+    let mut blocks = vec![head_block(&maker.head())];
+    for _ in 0..count {
+        blocks.push(element_block(&maker.element()));
+    }
+    let damaged = random.often(200);
+    let sheet = if damaged { damage(random, &mut blocks) } else { sheet_of(&blocks) };
+    Input { policy, d, sheet, damaged }
+}

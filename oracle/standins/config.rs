@@ -1,0 +1,1 @@
+pub mod gds_file_types;

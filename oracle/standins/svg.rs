@@ -1,0 +1,25 @@
+//! In the place of the SVG writer, which was not published. A child of the write module sees its private
+//! functions: this is the door to `write_cell_with_options`, as published.
+use super::{GdsConversionReport, GdsRoundingPolicy, GdsWriteOptions, write_cell_with_options};
+use crate::{Cell, GdsError, GdsTimestamps};
+
+/// One cell, with its report.
+pub fn write_one_cell(
+    cell: &Cell,
+    database_units: f64,
+    policy: GdsRoundingPolicy,
+    timestamps: GdsTimestamps,
+) -> Result<(Vec<u8>, GdsConversionReport), GdsError> {
+    write_cell_with_options(cell, database_units, GdsWriteOptions::new(policy), timestamps)
+}
+
+/// The same without the report, to see what the report costs.
+pub fn write_one_cell_without_report(
+    cell: &Cell,
+    database_units: f64,
+    policy: GdsRoundingPolicy,
+    timestamps: GdsTimestamps,
+) -> Result<Vec<u8>, GdsError> {
+    let options = GdsWriteOptions::new(policy).without_report();
+    write_cell_with_options(cell, database_units, options, timestamps).map(|(bytes, _)| bytes)
+}
