@@ -1,5 +1,5 @@
 // Numbers of several bytes, big-endian, in slices: read from a place, and written to one.
-// A wider number is read and written by its halves: 256 ^ 2 is 65536, 256 ^ 4 is 4294967296.
+// A wider number is read and written by its halves: 256 ^ 2 is 65536, 256 ^ 4 is 4294967296. Eight bytes are read by quarters: of that sum a compiler makes one load.
 ghost use mathlib.Core.Path.{_≡_};
 ghost use Prim.Native.Nat.{_+_, _≤_, _<_};
 ghost use lib.ListN.{length};
@@ -41,9 +41,11 @@ pub fn u64_at(s: &[u8], at: usize) -> u64
     requires { ⌜ at + 8 ≤ length (now s) ⌝ }
     ensures { λ r. ⌜ r ≡ numberAt 8 (now (s .entry)) at ⌝ }
 {
-    let a = u32_at(s, at) as u64;
-    let b = u32_at(s, at + 4) as u64;
-    a * 4294967296 + b
+    let a = u16_at(s, at) as u64;
+    let b = u16_at(s, at + 2) as u64;
+    let c = u16_at(s, at + 4) as u64;
+    let d = u16_at(s, at + 6) as u64;
+    a * 0x1_0000_0000_0000 + b * 0x1_0000_0000 + (c * 0x1_0000 + d)
 }
 
 // The signed number whose bits are v.

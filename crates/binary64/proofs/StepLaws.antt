@@ -94,13 +94,13 @@ module _ (x : Float) (F : T (fits binary64 x)) (f : T (finite x)) where
           no : (k : ℕ) → suc k ≡ 0 → ⊥
           no k e = omega arith
 
-  field-lt : fieldOf (toBits binary64 x) < 2047
+  pub field-lt : fieldOf (toBits binary64 x) < 2047
   field-lt = by-field (fieldOf (toBits binary64 x)) (λ e. omega arith) (λ n. under (fieldOf (toBits binary64 x)) (parts-suc x F f n .power))
     where
       under : (k : ℕ) → k - 1 < 2046 → k < 2047
       under k h = omega arith
 
-  sign-bits : negative x ≡ leb (2 ^ 63) (toBits binary64 x)
+  pub sign-bits : negative x ≡ leb (2 ^ 63) (toBits binary64 x)
   sign-bits = by-field (fieldOf (toBits binary64 x)) (λ e. parts-zero x F f e .sign) (λ n. parts-suc x F f n .sign)
 
 -- the next pattern: one digit more, or a carry

@@ -84,8 +84,11 @@ pub fn is_finite(x: f64) -> bool
 pub fn is_positive(x: f64) -> bool
     ensures { λ r. ⌜ r ≡ positive x ⌝ }
 {
-    let top = 1.0 / 0.0;
-    if x < top { 0.0 < x } else { false }
+    if 0.0 < x {
+        f64::to_bits(x) < INFINITE
+    } else {
+        false
+    }
 }
 
 // The sign of a double, and its size as `digits` * 2 ^ `power` units.

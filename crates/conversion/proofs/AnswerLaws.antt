@@ -38,13 +38,17 @@ pub value-finite : (policy : GdsRoundingPolicy) (d p : Float) → finite (div bi
 unfolding databaseValue
 value-finite policy d p h = sym (need-on (finite p) R.NotFinite _ (finite-quotient d p h) ∙ need-on (finite (div binary64 p d)) R.NotFinite _ h)
 
+value-not-finite : (policy : GdsRoundingPolicy) (d p : Float) → finite p ≡ false → refused R.NotFinite ≡ databaseValue policy d p
+unfolding databaseValue
+value-not-finite policy d p h = sym (need-off (finite p) R.NotFinite _ h)
+
 pub value-infinite : (policy : GdsRoundingPolicy) (d p : Float) → finite (div binary64 p d) ≡ false → refused R.NotFinite ≡ databaseValue policy d p
 unfolding databaseValue
 value-infinite policy d p h = go (finite p) refl
   where
     go : (t : Bool) → finite p ≡ t → refused R.NotFinite ≡ databaseValue policy d p
     go true e = sym (need-on (finite p) R.NotFinite _ e ∙ need-off (finite (div binary64 p d)) R.NotFinite _ h)
-    go false e = sym (need-off (finite p) R.NotFinite _ e)
+    go false e = value-not-finite policy d p e
 
 -- ---- a value and then its deviation, by the value's answer v
 
@@ -100,6 +104,25 @@ module _ (policy : GdsRoundingPolicy) (d : Float) (at : Spot) (u : Unit) where
   by-none : passed d u ≡ none → convertBy policy d at u none ≡ convertUnit policy d at u
   unfolding convertUnit
   by-none h = ap (convertBy policy d at u) (sym h)
+
+  -- the three ways by what passes, for code that has the unit and the physical value alone. One test refuses what is not finite: where p is not, its quotient is not.
+  pub by-some : (v : ℤ) → passed d u ≡ some v → pure v ≡ convertUnit policy d at u
+  unfolding convertUnit convertBy
+  by-some v h = ap (convertBy policy d at u) (sym h)
+
+  pub by-source : passed d u ≡ none → positive (unitsOf u) ≡ false → refused R.SourceUnit ≡ convertUnit policy d at u
+  unfolding convertBy
+  by-source n h = refused-on (physicalValue u) (convertPhysical policy d at) R.SourceUnit (physical-source u h) ∙ by-none n
+
+  pub by-positive : passed d u ≡ none → positive (unitsOf u) ≡ true → convertPhysical policy d at (physical u) ≡ convertUnit policy d at u
+  unfolding convertBy
+  by-positive n h = go (finite (physical u)) refl ∙ by-none n
+    where
+      go : (t : Bool) → finite (physical u) ≡ t → convertPhysical policy d at (physical u) ≡ convertBy policy d at u none
+      go true e = pure-on (physicalValue u) (convertPhysical policy d at) (physical u) (physical-finite u h (physical u) refl e)
+      go false e =
+          sym (physical-refused policy d (physical u) at (D.Refused R.NotFinite) R.NotFinite refl (value-not-finite policy d (physical u) e))
+          ∙ refused-on (physicalValue u) (convertPhysical policy d at) R.NotFinite (physical-infinite u h (physical u) refl e)
 
   pub integer-by : (v : ℤ) (w : Float) → u ≡ U.Integer v w → eq w d ≡ false → convertBy policy d at (U.Integer v w) none ≡ convertUnit policy d at u
   unfolding passed

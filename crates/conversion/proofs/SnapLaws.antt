@@ -7,8 +7,9 @@ use native.Mathlib.Omega.{arith}
 use lib.Dec.{T, leb, lit<, lit≤}
 use lib.Pow.{pow-pos, pow-add, pow-mono, shl-lt}
 use lib.IntN.{ℤ, pos}
-use lib.Ieee.{Float, nan, inf, fin, binary64, fits, toBits, round, neg, ofInt}
-use lib.Ieee.Bits.{toBits-lt}
+use lib.Ieee.{Float, nan, inf, fin, binary64, isNan, nanBits, fits, ofBits, toBits, round, ne, neg, ofInt}
+use lib.Ieee.Bits.{nanBits-is, ofBits-toBits, toBits-lt}
+use lib.Ieee.Compare.{differs-from-itself}
 use lib.Ieee.Exact.{HasValue, round-exact}
 use lib.Ieee.Fits.{round-fits}
 use lib.Ieee.Scale.{finite}
@@ -88,6 +89,38 @@ module _ (x : Float) (F : T (fits binary64 x)) (f : T (finite x)) where
   ordered-minus : negative x ≡ true → ordered x ≡ 2 ^ 64 - 1 - (2 ^ 63 + lower x)
   unfolding ordered orderedBits
   ordered-minus h = ap orderedBits (bits-minus h) ∙ rw (le-leb (2 ^ 63) (2 ^ 63 + lower x) (omega arith))
+
+-- ---- the size of a double by its bits
+
+fits-plus : (s : Bool) (m : ℕ) (e : ℤ) → T (fits binary64 (fin s m e)) → T (fits binary64 (fin false m e))
+unfolding fits
+fits-plus s zero e F = F
+fits-plus s (suc m) e F = F
+
+infinite-bits : (s : Bool) → ofBits binary64 (toBits binary64 (inf s) % 2 ^ 63) ≡ inf false
+unfolding ofBits toBits
+infinite-bits true = refl
+infinite-bits false = refl
+
+pub abs-bits : (x : Float) → T (fits binary64 x) → T (not (isNan x)) → ofBits binary64 (toBits binary64 x % 2 ^ 63) ≡ abs x
+unfolding abs isNan
+abs-bits nan F n = absurd n
+abs-bits (inf s) F n = infinite-bits s
+abs-bits (fin s m e) F n = ap (ofBits binary64) (lower-is (fin s m e) F tt) ∙ ofBits-toBits binary64 (fin false m e) (fits-plus s m e F)
+
+-- they are no NaN's
+pub abs-pattern : (x : Float) → T (fits binary64 x) → T (not (isNan x)) → T (not (nanBits binary64 (toBits binary64 x % 2 ^ 63)))
+unfolding abs isNan
+abs-pattern x F n = subst (λ (t : Bool). T (not t)) (sym (nanBits-is binary64 (toBits binary64 x % 2 ^ 63) ∙ ap isNan (abs-bits x F n))) (go x n)
+  where
+    go : (x : Float) → T (not (isNan x)) → T (not (isNan (abs x)))
+    go nan n = n
+    go (inf s) n = tt
+    go (fin s m e) n = tt
+
+pub abs-nan : (x : Float) → ne x x ≡ true → x ≡ abs x
+unfolding abs
+abs-nan x h = let e : x ≡ nan = differs-from-itself x (subst T (sym h) tt) in e ∙ ap abs (sym e)
 
 same-leb : (a b c d : ℕ) → (a ≤ b → c ≤ d) → (c ≤ d → a ≤ b) → leb a b ≡ leb c d
 same-leb a b c d f g = go (leb a b) (leb c d) refl refl

@@ -184,16 +184,14 @@ pub fn database_value(policy: GdsRoundingPolicy, d: f64, p: f64) -> DatabaseValu
     }
 }
 
-// The size of x.
+// The size of x: its bits but the sign. No branch on the sign, which nothing foretells.
 fn abs(x: f64) -> f64
     ensures { λ r. ⌜ r ≡ Convert.abs x ⌝ }
 {
-    if x < 0.0 {
-        -x
-    } else if x == 0.0 {
-        0.0
-    } else {
+    if x != x {
         x
+    } else {
+        f64::from_bits(f64::to_bits(x) % SIGN)
     }
 }
 
@@ -209,11 +207,11 @@ fn quantization(d: f64, p: f64, s: f64, q: i32) -> Conversion
     requires { ⌜ s ≡ div binary64 p d ⌝ }
     ensures { λ r. ⌜ ((at : Spot) → outcome at r ≡ made q (deviations d at p q)) ⌝ }
 {
+    if binary64::within_one_ulp(s, q as f64) {
+        return Conversion::Converted { value: q };
+    }
     let error = abs(difference(d, p, q));
     if 0.0 < error {
-        if binary64::within_one_ulp(s, q as f64) {
-            return Conversion::Converted { value: q };
-        }
         return Conversion::Quantized {
             value: q,
             physical: p,

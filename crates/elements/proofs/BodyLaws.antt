@@ -1,15 +1,17 @@
--- Measuring a body is measuring the kind that it is: the bytes stay. Assumes nothing.
+-- Measuring or writing a body is measuring or writing the kind that it is: the bytes stay. Assumes nothing.
 use mathlib.Core.Path.{_≡_, refl, sym, subst}
 use mathlib.Core.List.{List}
 use Prim.Native.Nat.{ℕ}
 use lib.Ieee.{Float}
 use Rattle.conversion.specs.declared.GdsRoundingPolicy.{GdsRoundingPolicy}
 use Rattle.conversion.specs.declared.Entry.{Entry}
+use Rattle.conversion.specs.Made.{Made, pure, _>>=_}
 use Rattle.stream.specs.Structure as D
 use Rattle.cell.specs.Write.{writePolygon, writePath, writeText, writeNode, writeReference, writeBody}
 use Rattle.writing.specs.declared.Measured.{Measured}
-use Rattle.writing.specs.Steps.{Measures}
-use Rattle.writing.proofs.StepLaws.{measure-wrapped}
+use Rattle.writing.specs.declared.Written.{Written}
+use Rattle.writing.specs.Steps.{Measures, Writes}
+use Rattle.writing.proofs.StepLaws.{measure-wrapped, write-wrapped}
 use Rattle.forms.specs.declared.ShapePlaces.{ShapePlaces}
 use Rattle.forms.specs.declared.PathPlaces.{PathPlaces}
 use Rattle.forms.specs.declared.TextPlaces.{TextPlaces}
@@ -27,44 +29,39 @@ use Rattle.elements.specs.Block.{bodyBytes}
 pub body-in-as : (b : List ℕ) {s t : BodyPlaces} → s ≡ t → BodyIn b s → BodyIn b t
 body-in-as b e w = subst (BodyIn b) e w
 
-module _ (policy : GdsRoundingPolicy) (d : Float) (b : List ℕ) (e : Entry) (r : Measured) where
-  -- r is what measuring the body at s answers
-  abbrev Answers : BodyPlaces → Type 0
-  Answers s = Measures bodyBytes e (writeBody policy d (bodyAt b s)) r
+-- measured or written, the step n of a body answers as the step m of its kind does
+pub record As {A : Type 0} (bytes : A → List ℕ) (m : Made A) (n : Made D.SaidBody) : Type 0 where
+  pub measures : (e : Entry) (r : Measured) → Measures bytes e m r → Measures bodyBytes e n r
+  pub writes : (e : Entry) (at : ℕ) (before after : List ℕ) (r : Written) → Writes bytes e m at before after r → Writes bodyBytes e n at before after r
 
-  polygon-is : (s : ShapePlaces) → Measures polygonBytes e (writePolygon policy d (shapeAt b s)) r → Answers (B.Polygon s)
+wrapped : {A : Type 0} (bytes : A → List ℕ) (wrap : A → D.SaidBody) → ((a : A) → bodyBytes (wrap a) ≡ bytes a) → (m : Made A) → As bytes m (m >>= λ a. pure (wrap a))
+wrapped bytes wrap kept m =
+    record {
+      measures = λ e r h. measure-wrapped bytes bodyBytes wrap kept e m r h;
+      writes = λ e at before after r h. write-wrapped bytes bodyBytes wrap kept e m at before after r h;
+    }
+
+-- the body at p, where it is of that kind
+module _ (policy : GdsRoundingPolicy) (d : Float) (b : List ℕ) where
+  abbrev Kind : {A : Type 0} → (A → List ℕ) → Made A → BodyPlaces → Type 0
+  Kind bytes m p = As bytes m (writeBody policy d (bodyAt b p))
+
+  pub polygon-as : {p : BodyPlaces} (s : ShapePlaces) → p ≡ B.Polygon s → Kind polygonBytes (writePolygon policy d (shapeAt b s)) p
   unfolding writeBody bodyBytes
-  polygon-is s h = measure-wrapped polygonBytes bodyBytes D.boundary (λ w. refl) e (writePolygon policy d (shapeAt b s)) r h
+  polygon-as s g = subst (Kind polygonBytes (writePolygon policy d (shapeAt b s))) (sym g) (wrapped polygonBytes D.boundary (λ w. refl) (writePolygon policy d (shapeAt b s)))
 
-  path-is : (s : PathPlaces) → Measures pathBytes e (writePath policy d (pathAt b s)) r → Answers (B.Path s)
+  pub path-as : {p : BodyPlaces} (s : PathPlaces) → p ≡ B.Path s → Kind pathBytes (writePath policy d (pathAt b s)) p
   unfolding writeBody bodyBytes pathBytes
-  path-is s h = measure-wrapped pathBytes bodyBytes D.path (λ w. refl) e (writePath policy d (pathAt b s)) r h
+  path-as s g = subst (Kind pathBytes (writePath policy d (pathAt b s))) (sym g) (wrapped pathBytes D.path (λ w. refl) (writePath policy d (pathAt b s)))
 
-  text-is : (s : TextPlaces) → Measures textBytes e (writeText policy d (textAt b s)) r → Answers (B.Text s)
+  pub text-as : {p : BodyPlaces} (s : TextPlaces) → p ≡ B.Text s → Kind textBytes (writeText policy d (textAt b s)) p
   unfolding writeBody bodyBytes textBytes
-  text-is s h = measure-wrapped textBytes bodyBytes D.text (λ w. refl) e (writeText policy d (textAt b s)) r h
+  text-as s g = subst (Kind textBytes (writeText policy d (textAt b s))) (sym g) (wrapped textBytes D.text (λ w. refl) (writeText policy d (textAt b s)))
 
-  node-is : (s : ShapePlaces) → Measures nodeBytes e (writeNode policy d (shapeAt b s)) r → Answers (B.Node s)
+  pub node-as : {p : BodyPlaces} (s : ShapePlaces) → p ≡ B.Node s → Kind nodeBytes (writeNode policy d (shapeAt b s)) p
   unfolding writeBody bodyBytes
-  node-is s h = measure-wrapped nodeBytes bodyBytes D.node (λ w. refl) e (writeNode policy d (shapeAt b s)) r h
+  node-as s g = subst (Kind nodeBytes (writeNode policy d (shapeAt b s))) (sym g) (wrapped nodeBytes D.node (λ w. refl) (writeNode policy d (shapeAt b s)))
 
-  reference-is : (s : ReferencePlaces) → Measures referenceBytes e (writeReference policy d (referenceAt b s)) r → Answers (B.Reference s)
+  pub reference-as : {p : BodyPlaces} (s : ReferencePlaces) → p ≡ B.Reference s → Kind referenceBytes (writeReference policy d (referenceAt b s)) p
   unfolding writeBody bodyBytes referenceBytes
-  reference-is s h = h
-
-  -- the body p is of that kind
-  module _ (p : BodyPlaces) where
-    pub measured-polygon : (s : ShapePlaces) → p ≡ B.Polygon s → Measures polygonBytes e (writePolygon policy d (shapeAt b s)) r → Answers p
-    measured-polygon s g h = subst Answers (sym g) (polygon-is s h)
-
-    pub measured-path : (s : PathPlaces) → p ≡ B.Path s → Measures pathBytes e (writePath policy d (pathAt b s)) r → Answers p
-    measured-path s g h = subst Answers (sym g) (path-is s h)
-
-    pub measured-text : (s : TextPlaces) → p ≡ B.Text s → Measures textBytes e (writeText policy d (textAt b s)) r → Answers p
-    measured-text s g h = subst Answers (sym g) (text-is s h)
-
-    pub measured-node : (s : ShapePlaces) → p ≡ B.Node s → Measures nodeBytes e (writeNode policy d (shapeAt b s)) r → Answers p
-    measured-node s g h = subst Answers (sym g) (node-is s h)
-
-    pub measured-reference : (s : ReferencePlaces) → p ≡ B.Reference s → Measures referenceBytes e (writeReference policy d (referenceAt b s)) r → Answers p
-    measured-reference s g h = subst Answers (sym g) (reference-is s h)
+  reference-as s g = subst (Kind referenceBytes (writeReference policy d (referenceAt b s))) (sym g) (record { measures = λ e r h. h; writes = λ e at before after r h. h })

@@ -1,7 +1,7 @@
 -- What an element's body and its tail take in the output, by the block alone. Assumes nothing.
 use mathlib.Core.Path.{_≡_, sym, ap, ap₂, _∙_}
 use mathlib.Core.Bool.{Bool, true, false, cond}
-use mathlib.Core.List.{List, _∷_, _++_}
+use mathlib.Core.List.{List}
 use Prim.Native.Nat.{ℕ, zero, suc, _+_, _*_, _%_, _≤_}
 use native.Mathlib.Omega.{arith}
 use lib.ListN.{length, length-append}
@@ -13,8 +13,8 @@ use Rattle.conversion.specs.declared.Deviation.{Deviation}
 use Rattle.conversion.specs.Made.{made}
 use Rattle.conversion.proofs.MadeLaws.{Yields, made-yields, steps, checked}
 use Rattle.stream.specs.Structure as D
-use Rattle.stream.specs.Record.{BOUNDARY, DATATYPE, NODE, NODETYPE, ENDEL, PROPATTR, PROPVALUE, recordBytes, streamBytes}
-use Rattle.stream.specs.Records.{emptyRecord, wordRecord, stringRecord, tailRecords}
+use Rattle.stream.specs.Record.{BOUNDARY, DATATYPE, NODE, NODETYPE, ENDEL}
+use Rattle.stream.specs.Records.{emptyRecord}
 use Rattle.cell.specs.Limits.{minPolygonPoints, maxPoints, minNodePoints, maxNodePoints}
 use Rattle.cell.specs.Write.{isSome, writePolygon, writeNode, writeBody, writeProperties}
 use Rattle.records.proofs.RecordLaws.{length-record}
@@ -35,7 +35,7 @@ use Rattle.text.proofs.TextLaws.{text-length}
 use Rattle.reference.specs.Reference.{referenceBytes, singleRest, arrayRest, isSingle, referenceLength}
 use Rattle.reference.proofs.RecordLaws.{reference-length}
 use Rattle.properties.specs.Tail.{said, propertyBytes, tailBytes, tailLength}
-use Rattle.properties.proofs.TailLaws.{length-property, tail-nil, place-up}
+use Rattle.properties.proofs.TailLaws.{length-property, tail-cons, tail-nil, place-up}
 use Rattle.elements.specs.Block.{bodyBytes, bodyLength}
 
 -- ---- the body
@@ -114,14 +114,6 @@ body-short b (B.Reference s) i =
 
 -- ---- the tail
 
-tail-cons : (q : D.Property) (qs : List D.Property) → length (tailBytes (q ∷ qs)) ≡ length (propertyBytes q) + length (tailBytes qs)
-unfolding tailBytes streamBytes tailRecords
-tail-cons q qs =
-    let a = length-append (recordBytes (wordRecord PROPATTR (q .attribute))) (recordBytes (stringRecord PROPVALUE (q .value))) in
-    let e = length-append (recordBytes (stringRecord PROPVALUE (q .value))) (tailBytes qs) in
-    let c = length-append (recordBytes (wordRecord PROPATTR (q .attribute))) (recordBytes (stringRecord PROPVALUE (q .value)) ++ tailBytes qs) in
-    omega arith
-
 -- a property that lies in the block, by where it is to end
 property-in : (n : ℕ) (b : List ℕ) (at : ℕ) → placeFrom propertyEnd n b (propertyEnd b at) ≤ length b → propertyEnd b at ≤ length b
 property-in n b at h = let u = place-up n b (propertyEnd b at) in omega arith
@@ -133,7 +125,8 @@ tail-yields zero b at qs h y = ap (λ (ws : List D.Property). length (tailBytes 
 tail-yields (suc n) b at qs h y =
     let k = steps (checked R.StringLength y .then) in
     ap (λ (ws : List D.Property). length (tailBytes ws)) (sym (made-yields (k .then)))
-    ∙ tail-cons (said (propertyAt b at)) (k .value)
+    ∙ ap length (tail-cons (said (propertyAt b at)) (k .value))
+    ∙ length-append (propertyBytes (said (propertyAt b at))) (tailBytes (k .value))
     ∙ ap₂ (λ (x y : ℕ). x + y) (length-property b at (property-in n b at h)) (tail-yields n b (propertyEnd b at) (k .value) h (k .first))
 
 -- what the definition gives has the length that the block tells

@@ -17,62 +17,25 @@ use Rattle.conversion.proofs.MadeLaws.{Yields, made-yields, steps}
 use Rattle.sheet.specs.Element.{Element, kindOf, elementOf}
 use Rattle.stream.specs.Structure as D
 use Rattle.stream.specs.Records.{elementBytes}
-use Rattle.cell.specs.Write.{writePolygon, writePath, writeText, writeNode, writeReference, writeBody, writeProperties, writeElement}
+use Rattle.cell.specs.Write.{writeBody, writeProperties, writeElement}
 use Rattle.writing.specs.declared.Written.{Written}
 use Rattle.writing.specs.declared.Written.the-variants as W
 use Rattle.writing.specs.Steps.{Owes, Writes}
-use Rattle.writing.proofs.StepLaws.{Left, left, write-first-refused, write-second-refused, write-both, write-wrapped}
-use Rattle.forms.specs.declared.ShapePlaces.{ShapePlaces}
-use Rattle.forms.specs.declared.PathPlaces.{PathPlaces}
-use Rattle.forms.specs.declared.TextPlaces.{TextPlaces}
-use Rattle.forms.specs.declared.ReferencePlaces.{ReferencePlaces}
+use Rattle.writing.proofs.StepLaws.{Left, left, write-first-refused, write-second-refused, write-both}
 use Rattle.forms.specs.declared.BodyPlaces.{BodyPlaces}
-use Rattle.forms.specs.declared.BodyPlaces.the-variants as B
 use Rattle.forms.specs.declared.PropertyPlaces.{PropertyPlaces}
 use Rattle.forms.specs.declared.ElementForm.{ElementForm}
 use Rattle.forms.specs.declared.ElementForm.the-variants as E
 use Rattle.forms.specs.Place.{placeFrom, propertyEnd}
-use Rattle.forms.specs.Forms.{shapeAt, pathAt, textAt, referenceAt, bodyAt, propertiesAt, BodyIn}
+use Rattle.forms.specs.Forms.{bodyAt, propertiesAt, BodyIn}
 use Rattle.forms.specs.Checks.{ElementRead}
 use Rattle.forms.proofs.ElementLaws.{element-as}
-use Rattle.shape.specs.Shape.{polygonBytes, nodeBytes}
-use Rattle.path.specs.Length.{pathBytes}
-use Rattle.text.specs.Text.{textBytes}
-use Rattle.reference.specs.Reference.{referenceBytes}
 use Rattle.properties.specs.Tail.{tailBytes, tailLength}
 use Rattle.elements.specs.Block.{bodyBytes, bodyLength, writtenBlock, Fits}
 use Rattle.elements.proofs.LengthLaws.{body-length, tail-length}
 use Rattle.elements.proofs.SplitLaws.{element-split}
 
--- ---- the body, by its kind: the kind's bytes are the body's
-
-module _ (policy : GdsRoundingPolicy) (d : Float) (b : List ℕ) (e : Entry) (before after : List ℕ) (r : Written) where
-  -- the body's promise, whatever told its places
-  abbrev Put : BodyPlaces → Type 0
-  Put s = Writes bodyBytes e (writeBody policy d (bodyAt b s)) 0 before after r
-
-  put-as : {s t : BodyPlaces} → s ≡ t → Put t → Put s
-  put-as h w = subst Put (sym h) w
-
-  pub put-polygon : {s : BodyPlaces} (x : ShapePlaces) → s ≡ B.Polygon x → Writes polygonBytes e (writePolygon policy d (shapeAt b x)) 0 before after r → Put s
-  unfolding writeBody bodyBytes
-  put-polygon x h w = put-as h (write-wrapped polygonBytes bodyBytes D.boundary (λ a. refl) e (writePolygon policy d (shapeAt b x)) 0 before after r w)
-
-  pub put-path : {s : BodyPlaces} (x : PathPlaces) → s ≡ B.Path x → Writes pathBytes e (writePath policy d (pathAt b x)) 0 before after r → Put s
-  unfolding writeBody bodyBytes pathBytes
-  put-path x h w = put-as h (write-wrapped pathBytes bodyBytes D.path (λ a. refl) e (writePath policy d (pathAt b x)) 0 before after r w)
-
-  pub put-text : {s : BodyPlaces} (x : TextPlaces) → s ≡ B.Text x → Writes textBytes e (writeText policy d (textAt b x)) 0 before after r → Put s
-  unfolding writeBody bodyBytes textBytes
-  put-text x h w = put-as h (write-wrapped textBytes bodyBytes D.text (λ a. refl) e (writeText policy d (textAt b x)) 0 before after r w)
-
-  pub put-node : {s : BodyPlaces} (x : ShapePlaces) → s ≡ B.Node x → Writes nodeBytes e (writeNode policy d (shapeAt b x)) 0 before after r → Put s
-  unfolding writeBody bodyBytes
-  put-node x h w = put-as h (write-wrapped nodeBytes bodyBytes D.node (λ a. refl) e (writeNode policy d (shapeAt b x)) 0 before after r w)
-
-  pub put-reference : {s : BodyPlaces} (x : ReferencePlaces) → s ≡ B.Reference x → Writes referenceBytes e (writeReference policy d (referenceAt b x)) 0 before after r → Put s
-  unfolding writeBody bodyBytes referenceBytes
-  put-reference x h w = put-as h w
+-- ---- the body
 
 -- what a kind's function asks, in the arm of that kind
 pub record Room (b : List ℕ) (s : BodyPlaces) (n : ℕ) : Type 0 where

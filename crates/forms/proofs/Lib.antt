@@ -12,3 +12,4 @@ pub mod ReferenceLaws
 pub mod HeadLaws
 pub mod ElementLaws
 pub mod UnitLaws
+pub mod StringLaws

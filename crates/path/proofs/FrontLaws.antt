@@ -3,7 +3,7 @@ use mathlib.Core.Path.{_≡_, refl, sym, ap, ap₂, _∙_, subst}
 use mathlib.Core.Bool.{Bool, true, false, cond, _&&_}
 use mathlib.Core.Option.{Option, none, some}
 use mathlib.Core.List.{List}
-use Prim.Native.Nat.{ℕ, _+_, _≤_, _<_}
+use Prim.Native.Nat.{ℕ, _+_, _≤_}
 use native.Mathlib.Omega.{arith}
 use lib.Dec.{leb, eqb}
 use lib.ListN.{length}
@@ -27,7 +27,8 @@ use Rattle.sheet.specs.Form.{absentKind}
 use Rattle.sheet.specs.Element as S
 use Rattle.stream.specs.Structure as D
 use Rattle.records.specs.Bytes.{optionOf}
-use Rattle.writing.proofs.StepLaws.{run-through}
+use Rattle.writing.specs.Ready.{Ready, stopped, ready}
+use Rattle.writing.proofs.ReadyLaws.{ready-stops, ready-goes-on}
 use Rattle.cell.specs.Limits.{within, minPathPoints, maxPoints, maxLayer, maxDataType}
 use Rattle.cell.specs.Write.{isSome, layerAndType, writePath}
 use Rattle.forms.specs.Place.{unitAt, coordinateAt}
@@ -39,24 +40,16 @@ use Rattle.path.specs.declared.Length.{Length}
 use Rattle.path.specs.declared.Length.the-variants as L
 use Rattle.path.specs.declared.Lengths.{Lengths}
 use Rattle.path.specs.declared.Lengths.the-variants as F
-use Rattle.path.specs.Front.{Extent, extent, writeExtent, writeFront, Answer, refuses, gives, lengthOf, extentOf, LengthFits, GivesLength, Fits, ExtentFits, GivesExtent}
+use Rattle.path.specs.Front.{Extent, extent, writeExtent, writeFront, lengthOf, extentOf, LengthFits, GivesLength, GivesExtent}
 
 -- ---- an answer handed on: a step's refusal, or what is left after its value
 
 module _ {R : Type 0} (stop : Refusal → R) {A B : Type 0} (e : Entry) (m : Made A) (f : A → Made B) (k : B → Entry → R) where
-  abbrev spread : Answer A → R
-  spread (refuses x) = stop x
-  spread (gives a e′) = run stop e′ (f a) k
+  stops : (r : Ready A) (x : Refusal) → r ≡ run stopped e m ready → r ≡ stopped x → stop x ≡ run stop e (m >>= f) k
+  stops r x h g = ready-stops e m r h stop (λ a e′. run stop e′ (f a) k) x g ∙ sym (run-bind stop e m f k)
 
-  handed : (r : Answer A) → r ≡ run refuses e m gives → spread r ≡ run stop e (m >>= f) k
-  handed r h =
-      ap spread h ∙ run-through refuses gives spread stop (λ a e′. run stop e′ (f a) k) (λ x. refl) (λ a e′. refl) e m ∙ sym (run-bind stop e m f k)
-
-  pub stops : (r : Answer A) (x : Refusal) → r ≡ run refuses e m gives → r ≡ refuses x → stop x ≡ run stop e (m >>= f) k
-  stops r x h g = ap spread (sym g) ∙ handed r h
-
-  pub goes-on : (r : Answer A) (a : A) (e′ : Entry) → r ≡ run refuses e m gives → r ≡ gives a e′ → run stop e′ (f a) k ≡ run stop e (m >>= f) k
-  goes-on r a e′ h g = ap spread (sym g) ∙ handed r h
+  goes-on : (r : Ready A) (a : A) (e′ : Entry) → r ≡ run stopped e m ready → r ≡ ready a e′ → run stop e′ (f a) k ≡ run stop e (m >>= f) k
+  goes-on r a e′ h g = ready-goes-on e m r h stop (λ a e′. run stop e′ (f a) k) a e′ g ∙ sym (run-bind stop e m f k)
 
 -- ---- one length
 
@@ -79,7 +72,7 @@ module _ (policy : GdsRoundingPolicy) (d : Float) (f : ℕ) (b : List ℕ) (at :
       go n = omega arith
 
       missing : Of none (L.At false z e)
-      missing = record { is = sym (run-pure refuses e none gives); fits = (refl, go (e .count)) }
+      missing = record { is = sym (run-pure stopped e none ready); fits = (refl, go (e .count)) }
 
   module _ (t : Bool) (h : t ≡ eqb (numberAt 1 b at) absentKind) (g : t ≡ false) (s : Valued) (v : Values e (convertUnit policy d (spot f noAxis 0) (unitAt b at)) s) where
     there : (r : Length) → Of (some (unitAt b at)) r → Given r
@@ -87,15 +80,15 @@ module _ (policy : GdsRoundingPolicy) (d : Float) (f : ℕ) (b : List ℕ) (at :
 
     pub length-refused : (x : Refusal) → s ≡ G.Refused x → Given (L.Refused x)
     unfolding writeLength
-    length-refused x i = there (L.Refused x) (record { is = value-stops refuses e (convertUnit policy d (spot f noAxis 0) (unitAt b at)) (λ q. pure (some q)) gives s v x i; fits = tt })
+    length-refused x i = there (L.Refused x) (record { is = value-stops stopped e (convertUnit policy d (spot f noAxis 0) (unitAt b at)) (λ q. pure (some q)) ready s v x i; fits = tt })
 
     pub length-there : (q z : ℤ) (e′ : Entry) → s ≡ G.At q e′ → z ≡ q → Given (L.At true z e′)
     unfolding writeLength
     length-there q z e′ i j =
         there (L.At true z e′)
         (record {
-          is = ap (λ (y : ℤ). gives (some y) e′) j ∙ sym (run-pure refuses e′ (some q) gives)
-              ∙ value-goes-on refuses e (convertUnit policy d (spot f noAxis 0) (unitAt b at)) (λ q. pure (some q)) gives s v q e′ i;
+          is = ap (λ (y : ℤ). ready (some y) e′) j ∙ sym (run-pure stopped e′ (some q) ready)
+              ∙ value-goes-on stopped e (convertUnit policy d (spot f noAxis 0) (unitAt b at)) (λ q. pure (some q)) ready s v q e′ i;
           fits = (refl, subst (ValueGrown (e .count)) i (v .grown));
         })
 
@@ -119,25 +112,25 @@ module _ (policy : GdsRoundingPolicy) (d : Float) (p : S.Path) (e : Entry) (r1 :
 
   pub width-stops : (x : Refusal) → r1 ≡ L.Refused x → GivesExtent p e (writeExtent policy d p) (F.Refused x)
   unfolding writeExtent
-  width-stops x g = record { is = stops refuses e (writeLength policy d widthField (p .width)) first gives (lengthOf r1) x (h1 .is) (ap lengthOf g); fits = tt }
+  width-stops x g = record { is = stops stopped e (writeLength policy d widthField (p .width)) first ready (lengthOf r1) x (h1 .is) (ap lengthOf g); fits = tt }
 
   module _ (w : Bool) (q1 : ℤ) (e1 : Entry) (g1 : r1 ≡ L.At w q1 e1) (r2 : Length) (h2 : GivesLength (isSome (p .begin)) e1 (writeLength policy d beginField (p .begin)) r2) where
-    after-width : run refuses e1 (first (optionOf w q1)) gives ≡ run refuses e (writeExtent policy d p) gives
+    after-width : run stopped e1 (first (optionOf w q1)) ready ≡ run stopped e (writeExtent policy d p) ready
     unfolding writeExtent
-    after-width = goes-on refuses e (writeLength policy d widthField (p .width)) first gives (lengthOf r1) (optionOf w q1) e1 (h1 .is) (ap lengthOf g1)
+    after-width = goes-on stopped e (writeLength policy d widthField (p .width)) first ready (lengthOf r1) (optionOf w q1) e1 (h1 .is) (ap lengthOf g1)
 
     pub begin-stops : (x : Refusal) → r2 ≡ L.Refused x → GivesExtent p e (writeExtent policy d p) (F.Refused x)
     begin-stops x g =
-        record { is = stops refuses e1 (writeLength policy d beginField (p .begin)) (second (optionOf w q1)) gives (lengthOf r2) x (h2 .is) (ap lengthOf g) ∙ after-width; fits = tt }
+        record { is = stops stopped e1 (writeLength policy d beginField (p .begin)) (second (optionOf w q1)) ready (lengthOf r2) x (h2 .is) (ap lengthOf g) ∙ after-width; fits = tt }
 
     module _ (b : Bool) (q2 : ℤ) (e2 : Entry) (g2 : r2 ≡ L.At b q2 e2) (r3 : Length) (h3 : GivesLength (isSome (p .end)) e2 (writeLength policy d endField (p .end)) r3) where
-      after-begin : run refuses e2 (second (optionOf w q1) (optionOf b q2)) gives ≡ run refuses e (writeExtent policy d p) gives
+      after-begin : run stopped e2 (second (optionOf w q1) (optionOf b q2)) ready ≡ run stopped e (writeExtent policy d p) ready
       after-begin =
-          goes-on refuses e1 (writeLength policy d beginField (p .begin)) (second (optionOf w q1)) gives (lengthOf r2) (optionOf b q2) e2 (h2 .is) (ap lengthOf g2) ∙ after-width
+          goes-on stopped e1 (writeLength policy d beginField (p .begin)) (second (optionOf w q1)) ready (lengthOf r2) (optionOf b q2) e2 (h2 .is) (ap lengthOf g2) ∙ after-width
 
       pub end-stops : (x : Refusal) → r3 ≡ L.Refused x → GivesExtent p e (writeExtent policy d p) (F.Refused x)
       end-stops x g =
-          record { is = stops refuses e2 (writeLength policy d endField (p .end)) (third (optionOf w q1) (optionOf b q2)) gives (lengthOf r3) x (h3 .is) (ap lengthOf g) ∙ after-begin; fits = tt }
+          record { is = stops stopped e2 (writeLength policy d endField (p .end)) (third (optionOf w q1) (optionOf b q2)) ready (lengthOf r3) x (h3 .is) (ap lengthOf g) ∙ after-begin; fits = tt }
 
       -- z1, z2 and z3 are what the machine reads back of the values
       pub all-there : (n : Bool) (q3 : ℤ) (e3 : Entry) → r3 ≡ L.At n q3 e3 → (z1 z2 z3 : ℤ) → z1 ≡ q1 → z2 ≡ q2 → z3 ≡ q3
@@ -147,9 +140,9 @@ module _ (policy : GdsRoundingPolicy) (d : Float) (p : S.Path) (e : Entry) (r1 :
           let f2 = subst (LengthFits (isSome (p .begin)) (e1 .count)) g2 (h2 .fits) in
           let f3 = subst (LengthFits (isSome (p .end)) (e2 .count)) g3 (h3 .fits) in
           record {
-            is = ap (λ (x : Extent). gives x e3) (same-extent w b n i1 i2 i3)
-                ∙ sym (run-pure refuses e3 (extent w q1 b q2 n q3) gives)
-                ∙ goes-on refuses e2 (writeLength policy d endField (p .end)) (third (optionOf w q1) (optionOf b q2)) gives (lengthOf r3) (optionOf n q3) e3 (h3 .is) (ap lengthOf g3)
+            is = ap (λ (x : Extent). ready x e3) (same-extent w b n i1 i2 i3)
+                ∙ sym (run-pure stopped e3 (extent w q1 b q2 n q3) ready)
+                ∙ goes-on stopped e2 (writeLength policy d endField (p .end)) (third (optionOf w q1) (optionOf b q2)) ready (lengthOf r3) (optionOf n q3) e3 (h3 .is) (ap lengthOf g3)
                 ∙ after-begin;
             fits = record { wide-is = f1 .0; begun-is = f2 .0; ended-is = f3 .0; grown = go (e .count) (e1 .count) (e2 .count) (e3 .count) (f1 .1) (f2 .1) (f3 .1) };
           }
@@ -233,8 +226,8 @@ module _ (policy : GdsRoundingPolicy) (d : Float) (p : S.Path) where
 
       no : within minPathPoints (length (p .points)) maxPoints ≡ false → Goal
       no t =
-          let x : extentOf r ≡ refuses R.PointCount = h .is ∙ wrong-count policy d p refuses e gives t in
-          let y : extentOf r ≡ gives (extent w q1 b q2 n q3) e′ = ap extentOf g in
+          let x : extentOf r ≡ stopped R.PointCount = h .is ∙ wrong-count policy d p stopped e ready t in
+          let y : extentOf r ≡ ready (extent w q1 b q2 n q3) e′ = ap extentOf g in
           let z : _≡_ {A = ℕ} 0 1 = cc in
           absurd (omega arith)
 

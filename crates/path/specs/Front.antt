@@ -7,7 +7,6 @@ use Prim.Native.Nat.{ℕ, _+_, _≤_}
 use lib.ListN.{length}
 use lib.IntN.{ℤ}
 use lib.Ieee.{Float}
-use Rattle.refusal.specs.declared.Refusal.{Refusal}
 use Rattle.refusal.specs.declared.Refusal.the-variants as R
 use Rattle.conversion.specs.declared.GdsRoundingPolicy.{GdsRoundingPolicy}
 use Rattle.conversion.specs.declared.Entry.{Entry}
@@ -17,6 +16,7 @@ use Rattle.conversion.specs.Points.{writeLength}
 use Rattle.conversion.specs.Field.{widthField, beginField, endField}
 use Rattle.sheet.specs.Element as S
 use Rattle.records.specs.Bytes.{optionOf}
+use Rattle.writing.specs.Ready.{Ready, stopped, ready}
 use Rattle.cell.specs.Limits.{within, minPathPoints, maxPoints}
 use Rattle.cell.specs.Write.{isSome, layerAndType}
 use Rattle.path.specs.declared.Length.{Length}
@@ -51,19 +51,15 @@ module _ (policy : GdsRoundingPolicy) (d : Float) where
     layerAndType (e .layer) (e .datatype)
     writeExtent e
 
--- ---- what the code answers: a refusal, or a value with the element's entry after it
+-- ---- what the code answers
 
-pub data Answer (A : Type 0) : Type 0 where
-  refuses : Refusal → Answer A
-  gives : A → Entry → Answer A
+abbrev pub lengthOf : Length → Ready (Option ℤ)
+lengthOf (L.Refused r) = stopped r
+lengthOf (L.At there value e) = ready (optionOf there value) e
 
-abbrev pub lengthOf : Length → Answer (Option ℤ)
-lengthOf (L.Refused r) = refuses r
-lengthOf (L.At there value e) = gives (optionOf there value) e
-
-abbrev pub extentOf : Lengths → Answer Extent
-extentOf (F.Refused r) = refuses r
-extentOf (F.At wide width begun begin ended end e) = gives (extent wide width begun begin ended end) e
+abbrev pub extentOf : Lengths → Ready Extent
+extentOf (F.Refused r) = stopped r
+extentOf (F.At wide width begun begin ended end e) = ready (extent wide width begun begin ended end) e
 
 -- A length is there if it is on the sheet, and brings at most one deviation more.
 abbrev pub LengthFits : Bool → ℕ → Length → Type 0
@@ -71,7 +67,7 @@ LengthFits on n (L.Refused r) = Unit {0}
 LengthFits on n (L.At there value e) = (there ≡ on) × (e .count ≤ n + 1)
 
 pub record GivesLength (on : Bool) (e : Entry) (m : Made (Option ℤ)) (r : Length) : Type 0 where
-  pub is : lengthOf r ≡ run refuses e m gives
+  pub is : lengthOf r ≡ run stopped e m ready
   pub fits : LengthFits on (e .count) r
 
 -- the same of the three
@@ -86,5 +82,5 @@ ExtentFits p n (F.Refused r) = Unit {0}
 ExtentFits p n (F.At wide width begun begin ended end e) = Fits p n wide begun ended e
 
 pub record GivesExtent (p : S.Path) (e : Entry) (m : Made Extent) (r : Lengths) : Type 0 where
-  pub is : extentOf r ≡ run refuses e m gives
+  pub is : extentOf r ≡ run stopped e m ready
   pub fits : ExtentFits p (e .count) r

@@ -4,6 +4,9 @@ use Prim.Native.Nat.{ℕ, _+_, _≤_}
 use native.Mathlib.Omega.{arith}
 use lib.IntN.{ℤ}
 use lib.Ieee.{Float}
+use mir.Syntax.{w32}
+use mir.Val.{SFits, toZ, ofZ}
+use mir.ValLaws.{toZ-ofZ}
 use Rattle.refusal.specs.declared.Refusal.{Refusal}
 use Rattle.units.specs.declared.Unit.{Unit}
 use Rattle.units.specs.Point.{Point}
@@ -22,8 +25,10 @@ use Rattle.conversion.proofs.FoldLaws.{noted-count, run-bind, run-pure}
 use Rattle.writing.proofs.StepLaws.{run-through}
 use Rattle.points.specs.declared.Valued.{Valued}
 use Rattle.points.specs.declared.Valued.the-variants as G
+use Rattle.points.specs.declared.Plain.the-variants as L
+use Rattle.points.specs.declared.Pointed.{Pointed}
 use Rattle.points.specs.declared.Pointed.the-variants as P
-use Rattle.points.specs.Walk.{valued, ValueGrown, Values, pointed, Converts}
+use Rattle.points.specs.Walk.{valued, ValueGrown, Values, pointed, Converts, both, plainOf}
 
 -- ---- a conversion's answer. z and w are what the machine reads back of the value q.
 
@@ -76,32 +81,65 @@ module _ {R : Type 0} (stop : Refusal → R) {B : Type 0} (e : Entry) (m : Made 
 
 -- ---- a point: each way out. z and w are what the machine reads back of x and y.
 
-module _ (policy : GdsRoundingPolicy) (d : Float) (f k : ℕ) (p : Point Unit) (e : Entry) (r : Valued) (h : Values e (convertUnit policy d (spot f xAxis k) (p .x)) r) where
+module _ (f k : ℕ) (cx cy : Conversion) (e : Entry) (r : Valued) (h : Values e (outcome (spot f xAxis k) cx) r) where
   abbrev after : ℤ → Made (Point ℤ)
-  after x = convertUnit policy d (spot f yAxis k) (p .y) >>= λ y. pure (record { x = x; y = y })
+  after x = outcome (spot f yAxis k) cy >>= λ y. pure (record { x = x; y = y })
 
-  pub point-stops : (x : Refusal) → r ≡ G.Refused x → Converts e (writePoint policy d f k p) (P.Refused x)
-  unfolding writePoint
-  point-stops x g = record { is = value-stops P.Refused e (convertUnit policy d (spot f xAxis k) (p .x)) after pointed r h x g; grown = tt }
+  pub point-stops : (x : Refusal) → r ≡ G.Refused x → Converts e (both f k cx cy) (P.Refused x)
+  unfolding both
+  point-stops x g = record { is = value-stops P.Refused e (outcome (spot f xAxis k) cx) after pointed r h x g; grown = tt }
 
-  module _ (x z : ℤ) (e1 : Entry) (g : r ≡ G.At x e1) (i : z ≡ x) (s : Valued) (j : Values e1 (convertUnit policy d (spot f yAxis k) (p .y)) s) where
-    first : run P.Refused e1 (after x) pointed ≡ run P.Refused e (writePoint policy d f k p) pointed
-    unfolding writePoint
-    first = value-goes-on P.Refused e (convertUnit policy d (spot f xAxis k) (p .x)) after pointed r h x e1 g
+  module _ (x z : ℤ) (e1 : Entry) (g : r ≡ G.At x e1) (i : z ≡ x) (s : Valued) (j : Values e1 (outcome (spot f yAxis k) cy) s) where
+    first : run P.Refused e1 (after x) pointed ≡ run P.Refused e (both f k cx cy) pointed
+    unfolding both
+    first = value-goes-on P.Refused e (outcome (spot f xAxis k) cx) after pointed r h x e1 g
 
-    pub point-stops-at-y : (y : Refusal) → s ≡ G.Refused y → Converts e (writePoint policy d f k p) (P.Refused y)
+    pub point-stops-at-y : (y : Refusal) → s ≡ G.Refused y → Converts e (both f k cx cy) (P.Refused y)
     point-stops-at-y y g2 =
-        record { is = value-stops P.Refused e1 (convertUnit policy d (spot f yAxis k) (p .y)) (λ y. pure (record { x = x; y = y })) pointed s j y g2 ∙ first; grown = tt }
+        record { is = value-stops P.Refused e1 (outcome (spot f yAxis k) cy) (λ y. pure (record { x = x; y = y })) pointed s j y g2 ∙ first; grown = tt }
 
-    pub point-made : (y w : ℤ) (e2 : Entry) → s ≡ G.At y e2 → w ≡ y → Converts e (writePoint policy d f k p) (P.At z w e2)
+    pub point-made : (y w : ℤ) (e2 : Entry) → s ≡ G.At y e2 → w ≡ y → Converts e (both f k cx cy) (P.At z w e2)
     point-made y w e2 g2 i2 =
         record {
           is = ap₂ (λ (u v : ℤ). P.At u v e2) i i2
               ∙ sym (run-pure P.Refused e2 (record { x = x; y = y }) pointed)
-              ∙ value-goes-on P.Refused e1 (convertUnit policy d (spot f yAxis k) (p .y)) (λ y. pure (record { x = x; y = y })) pointed s j y e2 g2
+              ∙ value-goes-on P.Refused e1 (outcome (spot f yAxis k) cy) (λ y. pure (record { x = x; y = y })) pointed s j y e2 g2
               ∙ first;
           grown = go (e .count) (e1 .count) (e2 .count) (subst (ValueGrown (e .count)) g (h .grown)) (subst (ValueGrown (e1 .count)) g2 (j .grown));
         }
       where
         go : (a b c : ℕ) → b ≤ a + 1 → c ≤ b + 1 → c ≤ a + 2
         go a b c h k = omega arith
+
+-- ---- a point with no deviation that counts leaves the entry as it is
+
+plain-made : (f k : ℕ) (e : Entry) (cx cy : Conversion) (x y : ℤ) → L.At x y ≡ plainOf cx cy → Converts e (both f k cx cy) (P.At x y e)
+unfolding both _>>=_ run notedAll
+plain-made f k e (C.Converted a) (C.Converted b) x y g = record { is = cc; grown = omega arith }
+plain-made f k e (C.Converted a) (C.Refused r) x y g = let z : _≡_ {A = ℕ} 0 1 = cc in absurd (omega arith)
+plain-made f k e (C.Converted a) (C.Quantized q p i) x y g = let z : _≡_ {A = ℕ} 0 1 = cc in absurd (omega arith)
+plain-made f k e (C.Refused r) cy x y g = let z : _≡_ {A = ℕ} 0 1 = cc in absurd (omega arith)
+plain-made f k e (C.Quantized q p i) cy x y g = let z : _≡_ {A = ℕ} 0 1 = cc in absurd (omega arith)
+
+-- ---- the point at a place, by the conversions of its coordinates
+
+module _ (policy : GdsRoundingPolicy) (d : Float) (p : Point Unit) (cx cy : Conversion)
+    (hx : (s : Spot) → outcome s cx ≡ convertUnit policy d s (p .x)) (hy : (s : Spot) → outcome s cy ≡ convertUnit policy d s (p .y)) (f k : ℕ) (e : Entry) where
+  both-is : both f k cx cy ≡ writePoint policy d f k p
+  unfolding both writePoint
+  both-is = ap₂ (λ (m n : Made ℤ). m >>= λ x. n >>= λ y. pure (record { x = x; y = y })) (hx (spot f xAxis k)) (hy (spot f yAxis k))
+
+  pub point-recorded : (r : Pointed) → Converts e (both f k cx cy) r → Converts e (writePoint policy d f k p) r
+  point-recorded r c = subst (λ (m : Made (Point ℤ)). Converts e m r) both-is c
+
+  pub point-plain : (x y : ℤ) → L.At x y ≡ plainOf cx cy → Converts e (writePoint policy d f k p) (P.At x y e)
+  point-plain x y g = point-recorded (P.At x y e) (plain-made f k e cx cy x y g)
+
+-- the same as code has it between two calls: x1 and y1 are the bits of x and y
+pub point-read : {e : Entry} {m : Made (Point ℤ)} {r : Pointed} → Converts e m r → (x y : ℤ) (e1 : Entry) → r ≡ P.At x y e1 → SFits w32 x → SFits w32 y
+    → {x1 y1 : ℕ} {e2 : Entry} → x1 ≡ ofZ w32 x → y1 ≡ ofZ w32 y → e2 ≡ e1 → Converts e m (P.At (toZ w32 x1) (toZ w32 y1) e2)
+point-read {e} {m} {r} c x y e1 g f h {x1} {y1} {e2} i j k =
+    let a : toZ w32 x1 ≡ x = ap (toZ w32) i ∙ toZ-ofZ w32 x f in
+    let b : toZ w32 y1 ≡ y = ap (toZ w32) j ∙ toZ-ofZ w32 y h in
+    let q : r ≡ P.At (toZ w32 x1) (toZ w32 y1) e2 = cc in
+    subst (Converts e m) q c

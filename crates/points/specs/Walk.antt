@@ -7,12 +7,19 @@ use lib.IntN.{ℤ, pos}
 use Rattle.refusal.specs.declared.Refusal.{Refusal}
 use Rattle.units.specs.Point.{Point}
 use Rattle.big_endian.specs.Buffer.{splice}
+use Rattle.conversion.specs.declared.Conversion.{Conversion}
+use Rattle.conversion.specs.declared.Conversion.the-variants as C
 use Rattle.conversion.specs.declared.Entry.{Entry}
-use Rattle.conversion.specs.Made.{Made}
+use Rattle.conversion.specs.Answer.{outcome}
+use Rattle.conversion.specs.Field.{xAxis, yAxis}
+use Rattle.conversion.specs.Made.{Made, pure, _>>=_}
 use Rattle.conversion.specs.Fold.{run}
+use Rattle.conversion.specs.Points.{spot}
 use Rattle.cell.specs.Write.{lastOf}
 use Rattle.points.specs.declared.Valued.{Valued}
 use Rattle.points.specs.declared.Valued.the-variants as G
+use Rattle.points.specs.declared.Plain.{Plain}
+use Rattle.points.specs.declared.Plain.the-variants as L
 use Rattle.points.specs.declared.Pointed.{Pointed}
 use Rattle.points.specs.declared.Pointed.the-variants as P
 use Rattle.points.specs.declared.Walked.{Walked}
@@ -46,6 +53,21 @@ PointGrown n (P.At x y e) = e .count ≤ n + 2
 pub record Converts (e : Entry) (m : Made (Point ℤ)) (r : Pointed) : Type 0 where
   pub is : r ≡ run P.Refused e m pointed
   pub grown : PointGrown (e .count) r
+
+-- both coordinates of a point by their conversions, x before y
+unfoldable pub both : ℕ → ℕ → Conversion → Conversion → Made (Point ℤ)
+both f k cx cy = do
+  x ← outcome (spot f xAxis k) cx
+  y ← outcome (spot f yAxis k) cy
+  pure (record { x = x; y = y })
+
+-- their values where neither is refused and no deviation counts
+abbrev pub plainOf : Conversion → Conversion → Plain
+plainOf (C.Converted x) (C.Converted y) = L.At x y
+plainOf (C.Converted x) (C.Refused r) = L.No
+plainOf (C.Converted x) (C.Quantized q p e) = L.No
+plainOf (C.Refused r) cy = L.No
+plainOf (C.Quantized q p e) cy = L.No
 
 -- ---- all points: the first, and the last that was met
 

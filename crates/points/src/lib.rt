@@ -1,18 +1,26 @@
 // Values and points of the sheet to the grid, with the element's report entry, and points into the lent output (`write_points_to_file` of write/mod.rs).
 ghost use mathlib.Core.Path.{_≡_};
+ghost use mathlib.Core.Bool.{true, _&&_, cond};
 ghost use mathlib.Core.List.{_++_};
-ghost use Prim.Native.Nat.{_+_, _-_, _*_, _≤_, _<_};
+ghost use Prim.Native.Nat.{_+_, _-_, _*_, _%_, _≤_, _<_};
+ghost use lib.Dec.{eqb};
 ghost use lib.ListN.{length};
+ghost use lib.Ieee.{binary64, eq, ofBits, ofInt};
+ghost use mir.Syntax.{w32};
+ghost use mir.Val.{toZ};
+ghost use Rattle.big_endian.specs.Big.{numberAt};
 ghost use Rattle.big_endian.specs.Buffer.{WroteAt};
+ghost use Rattle.sheet.specs.Form.{integerKind};
 ghost use Rattle.conversion.specs.Answer.{outcome};
-ghost use Rattle.conversion.specs.Convert.{convertUnit};
+ghost use Rattle.conversion.specs.Convert.{Spot, convertUnit};
 ghost use Rattle.conversion.specs.Fold.{run};
 ghost use Rattle.conversion.specs.Points.{spot, writePoint, writePoints};
 ghost use Rattle.stream.specs.Records.{longBytes, pointsBytes};
 ghost use Rattle.writing.specs.Steps.{Writes};
 ghost use Rattle.forms.specs.Place.{unitAt, pointAt, pointsFrom};
 ghost use Rattle.points.specs.declared.Walked.the-variants as W;
-ghost use Rattle.points.specs.Walk.{Values, Converts, through, walked, Puts};
+ghost use Rattle.points.specs.Integers.{integerAt, integersFrom, AllPass};
+ghost use Rattle.points.specs.Walk.{Values, Converts, both, plainOf, through, walked, Puts};
 use conversion::Conversion;
 use conversion::Deviation;
 use conversion::Entry;
@@ -27,10 +35,28 @@ const POINT: usize = 34;
 
 const XY_POINT: usize = 8;
 
+// In a coordinate: the kind byte of an integer, and the places of the value and the unit.
+const INTEGER: u8 = 0;
+
+const VALUE: usize = 1;
+
+const UNIT: usize = 9;
+
+const INTEGER_VALUE: usize = 5;
+
+// The numbers of four bytes are those below this.
+const INTEGERS: u64 = 0x1_0000_0000;
+
 // A value of the grid, with the element's entry after it.
 pub enum Valued {
     Refused { refusal: Refusal },
     At { value: i32, entry: Entry },
+}
+
+// Two values of the grid, where no deviation counts.
+enum Plain {
+    No,
+    At { x: i32, y: i32 },
 }
 
 // A point of the grid, with the entry after it.
@@ -79,7 +105,54 @@ pub fn record_quantization(c: Conversion, field: u8, axis: u8, place: u16, entry
     }
 }
 
-// The coordinate at a place of the block.
+// Whether a coordinate passes unchanged: an integer whose unit equals d.
+fn passes(kind: u8, units: f64, d: f64) -> bool
+    ensures { λ r. ⌜ r ≡ (eqb kind 0 && eq units d) ⌝ }
+{
+    if kind == INTEGER { units == d } else { false }
+}
+
+// An integer is the lower four of the eight value bytes.
+fn lower_value(raw: u64) -> i32
+    ensures { λ r. ⌜ r ≡ toZ w32 (raw % 4294967296) ⌝ }
+{
+    big_endian::as_i32((raw % INTEGERS) as u32)
+}
+
+// The value bytes as a double.
+fn double_value(kind: u8, raw: u64) -> f64
+    ensures { λ r. ⌜ r ≡ cond (eqb kind 0) (ofInt binary64 (toZ w32 (raw % 4294967296))) (ofBits binary64 raw) ⌝ }
+{
+    if kind == INTEGER {
+        lower_value(raw) as f64
+    } else {
+        binary64::from_bits(raw)
+    }
+}
+
+// The coordinate at a place of the block, to the grid. Its value bytes are read at once, whatever its kind; a physical value that is not finite
+// is refused by the test of its quotient.
+fn convert_at(policy: GdsRoundingPolicy, d: f64, b: &[u8], at: usize) -> Conversion
+    requires { ⌜ at + 17 ≤ length (now b) ⌝ }
+    ensures { λ r. ⌜ ((s : Spot) → outcome s r ≡ convertUnit policy d s (unitAt (now (b .entry)) at)) ⌝ }
+{
+    let kind = big_endian::u8_at(b, at);
+    let raw = big_endian::u64_at(b, at + VALUE);
+    let units = binary64::from_bits(big_endian::u64_at(b, at + UNIT));
+    if passes(kind, units, d) {
+        return Conversion::Converted {
+            value: lower_value(raw),
+        };
+    }
+    if binary64::is_positive(units) {
+        return conversion::convert_physical(policy, d, double_value(kind, raw) * units);
+    }
+    Conversion::Refused {
+        refusal: Refusal::SourceUnit,
+    }
+}
+
+// The same, in its place.
 pub fn convert_coordinate(
     policy: GdsRoundingPolicy,
     d: f64,
@@ -94,11 +167,43 @@ pub fn convert_coordinate(
     requires { ⌜ entry .count < 4294967295 ⌝ }
     ensures { λ r. ⌜ Values entry (convertUnit policy d (spot field axis place) (unitAt (now (b .entry)) at)) r ⌝ }
 {
-    let c = conversion::convert_unit(policy, d, forms::unit_at(b, at));
+    let c = convert_at(policy, d, b, at);
     record_quantization(c, field, axis, place, entry)
 }
 
-// The point at a place of the block, x before y.
+// Both coordinates of a point, in their places, x before y.
+fn record_point(cx: Conversion, cy: Conversion, field: u8, place: u16, entry: Entry) -> Pointed
+    requires { ⌜ entry .count < 4294967294 ⌝ }
+    ensures { λ r. ⌜ Converts entry (both field place cx cy) r ⌝ }
+{
+    match record_quantization(cx, field, conversion::X_AXIS, place, entry) {
+        Valued::Refused { refusal } => Pointed::Refused { refusal },
+        Valued::At { value: x, entry: e } => {
+            match record_quantization(cy, field, conversion::Y_AXIS, place, e) {
+                Valued::Refused { refusal: refusal2 } => Pointed::Refused { refusal: refusal2 },
+                Valued::At {
+                    value: y,
+                    entry: more,
+                } => Pointed::At { x, y, entry: more },
+            }
+        }
+    }
+}
+
+// Whether neither is refused nor has a deviation that counts: then the entry stays as it is.
+fn plain_point(cx: Conversion, cy: Conversion) -> Plain
+    ensures { λ r. ⌜ r ≡ plainOf cx cy ⌝ }
+{
+    let Conversion::Converted { value: x } = cx else {
+        return Plain::No;
+    };
+    let Conversion::Converted { value: y } = cy else {
+        return Plain::No;
+    };
+    Plain::At { x, y }
+}
+
+// The point at a place of the block.
 pub fn convert_point(
     policy: GdsRoundingPolicy,
     d: f64,
@@ -112,27 +217,87 @@ pub fn convert_point(
     requires { ⌜ entry .count < 4294967294 ⌝ }
     ensures { λ r. ⌜ Converts entry (writePoint policy d field place (pointAt (now (b .entry)) at)) r ⌝ }
 {
-    match convert_coordinate(policy, d, b, at, field, conversion::X_AXIS, place, entry) {
-        Valued::Refused { refusal } => Pointed::Refused { refusal },
-        Valued::At { value: x, entry: e } => {
-            match convert_coordinate(
-                policy,
-                d,
-                b,
-                at + COORDINATE,
-                field,
-                conversion::Y_AXIS,
-                place,
-                e,
-            ) {
-                Valued::Refused { refusal: refusal2 } => Pointed::Refused { refusal: refusal2 },
-                Valued::At {
-                    value: y,
-                    entry: more,
-                } => Pointed::At { x, y, entry: more },
-            }
-        }
+    let cx = convert_at(policy, d, b, at);
+    let cy = convert_at(policy, d, b, at + COORDINATE);
+    record_point(cx, cy, field, place, entry)
+}
+
+// ---- integers in the database unit, which pass unchanged: a clean layout's lists have nothing else, so that they are told apart once
+
+// Whether the coordinate at a place is an integer whose unit has these bits.
+fn in_unit(b: &[u8], at: usize, bits: u64) -> bool
+    requires { ⌜ at + 17 ≤ length (now b) ⌝ }
+    ensures { λ r. ⌜ (r ≡ true → (numberAt 1 (now (b .entry)) at ≡ integerKind) × (numberAt 8 (now (b .entry)) (at + 9) ≡ bits)) ⌝ }
+{
+    if big_endian::u8_at(b, at) == INTEGER {
+        return big_endian::u64_at(b, at + UNIT) == bits;
     }
+    false
+}
+
+// Whether n points pass for sure: a unit with the bits of d equals it, unless it is a NaN. Where the answer is no they may still pass.
+fn all_pass(d: f64, b: &[u8], from: usize, n: usize) -> bool
+    requires { ⌜ from + 34 * n ≤ length (now b) ⌝ }
+    ensures { λ r. ⌜ (r ≡ true → AllPass d (now (b .entry)) n from) ⌝ }
+{
+    if d != d {
+        return false;
+    }
+    let bits = f64::to_bits(d);
+    let mut i: usize = 0;
+    let mut at = from;
+    while i < n {
+        if !in_unit(b, at, bits) {
+            return false;
+        }
+        if !in_unit(b, at + COORDINATE, bits) {
+            return false;
+        }
+        at = at + POINT;
+        i = i + 1;
+    }
+    true
+}
+
+// The integer of the coordinate at a place.
+fn integer_at(b: &[u8], at: usize) -> i32
+    requires { ⌜ at + 17 ≤ length (now b) ⌝ }
+    ensures { λ r. ⌜ r ≡ integerAt (now (b .entry)) at ⌝ }
+{
+    big_endian::as_i32(big_endian::u32_at(b, at + INTEGER_VALUE))
+}
+
+// The ends of the points, with the entry as it is.
+fn integer_ends(b: &[u8], from: usize, n: usize, entry: Entry) -> Walked
+    requires { ⌜ from + 34 * n ≤ length (now b) ⌝ }
+    requires { ⌜ 1 ≤ n ⌝ }
+    ensures { λ r. ⌜ r ≡ walked (integersFrom n (now (b .entry)) from) entry ⌝ }
+{
+    let last = from + POINT * (n - 1);
+    Walked::Through {
+        x0: integer_at(b, from),
+        y0: integer_at(b, from + COORDINATE),
+        x1: integer_at(b, last),
+        y1: integer_at(b, last + COORDINATE),
+        entry,
+    }
+}
+
+// Eight bytes for each point; the place after them.
+fn put_integers(b: &[u8], from: usize, n: usize, out: &mut [u8], start: usize) -> usize
+    requires { ⌜ from + 34 * n ≤ length (now b) ⌝ }
+    requires { ⌜ start + 8 * n ≤ length (now out) ⌝ }
+    ensures { λ r. ⌜ WroteAt (pointsBytes (integersFrom n (now (b .entry)) from)) (now (out .entry)) (now (out .exit)) start r ⌝ }
+{
+    let mut i: usize = 0;
+    let mut at = from;
+    let mut to = start;
+    while i < n {
+        to = put_point(out, to, integer_at(b, at), integer_at(b, at + COORDINATE));
+        at = at + POINT;
+        i = i + 1;
+    }
+    to
 }
 
 // ---- measured
@@ -160,15 +325,23 @@ fn measure_rest(
     let mut y1 = y0;
     let mut e = entry;
     while i < n {
-        match convert_point(policy, d, b, at, conversion::POINT_FIELD, i as u16, e) {
-            Pointed::Refused { refusal } => {
-                return Walked::Refused { refusal };
-            }
-            Pointed::At { x, y, entry: more } => {
+        let cx = convert_at(policy, d, b, at);
+        let cy = convert_at(policy, d, b, at + COORDINATE);
+        match plain_point(cx, cy) {
+            Plain::At { x, y } => {
                 x1 = x;
                 y1 = y;
-                e = more;
             }
+            Plain::No => match record_point(cx, cy, conversion::POINT_FIELD, i as u16, e) {
+                Pointed::Refused { refusal } => {
+                    return Walked::Refused { refusal };
+                }
+                Pointed::At { x, y, entry: more } => {
+                    x1 = x;
+                    y1 = y;
+                    e = more;
+                }
+            },
         }
         at = at + POINT;
         i = i + 1;
@@ -197,6 +370,9 @@ pub fn measure_points(
     requires { ⌜ entry .count ≤ 16 ⌝ }
     ensures { λ r. ⌜ r ≡ run W.Refused entry (writePoints policy d 0 (pointsFrom n (now (b .entry)) from)) walked ⌝ }
 {
+    if all_pass(d, b, from, n) {
+        return integer_ends(b, from, n, entry);
+    }
     match convert_point(policy, d, b, from, conversion::POINT_FIELD, 0, entry) {
         Pointed::Refused { refusal } => Walked::Refused { refusal },
         Pointed::At { x, y, entry: e } => measure_rest(policy, d, b, from + POINT, n, x, y, e),
@@ -241,17 +417,25 @@ fn put_rest(
     let mut y1 = y0;
     let mut e = entry;
     while i < n {
-        match convert_point(policy, d, b, at, conversion::POINT_FIELD, i as u16, e) {
-            Pointed::Refused { refusal } => {
-                return Walked::Refused { refusal };
-            }
-            Pointed::At { x, y, entry: more } => {
-                to = put_point(out, to, x, y);
+        let cx = convert_at(policy, d, b, at);
+        let cy = convert_at(policy, d, b, at + COORDINATE);
+        match plain_point(cx, cy) {
+            Plain::At { x, y } => {
                 x1 = x;
                 y1 = y;
-                e = more;
             }
+            Plain::No => match record_point(cx, cy, conversion::POINT_FIELD, i as u16, e) {
+                Pointed::Refused { refusal } => {
+                    return Walked::Refused { refusal };
+                }
+                Pointed::At { x, y, entry: more } => {
+                    x1 = x;
+                    y1 = y;
+                    e = more;
+                }
+            },
         }
+        to = put_point(out, to, x1, y1);
         at = at + POINT;
         i = i + 1;
     }
@@ -282,6 +466,10 @@ pub fn put_ends(
     requires { ⌜ entry .count ≤ 16 ⌝ }
     ensures { λ r. ⌜ Puts pointsBytes walked entry (writePoints policy d 0 (pointsFrom n (now (b .entry)) from)) start (now (out .entry)) (now (out .exit)) r ⌝ }
 {
+    if all_pass(d, b, from, n) {
+        put_integers(b, from, n, out, start);
+        return integer_ends(b, from, n, entry);
+    }
     match convert_point(policy, d, b, from, conversion::POINT_FIELD, 0, entry) {
         Pointed::Refused { refusal } => Walked::Refused { refusal },
         Pointed::At { x, y, entry: e } => {

@@ -1,23 +1,21 @@
 -- Properties in turn: their lengths, and a turn of each walk over them. Assumes nothing.
-use mathlib.Core.Path.{_≡_, refl, sym, ap, ap₂, _∙_, subst}
-use mathlib.Core.Bool.{Bool, true, false, cond}
+use mathlib.Core.Path.{_≡_, sym, ap, ap₂, _∙_, subst}
+use mathlib.Core.Bool.{true, false}
 use mathlib.Core.List.{List, [], _∷_, _++_, append-assoc, append-nil}
-use Prim.Native.Nat.{ℕ, zero, suc, _+_, _-_, _*_, _%_, _≤_, _<_}
+use Prim.Native.Nat.{ℕ, zero, suc, _+_, _-_, _%_, _≤_, _<_}
 use native.Mathlib.Omega.{arith}
 use native.Mathlib.Nat.{add-sub-cancel-left}
-use lib.Dec.{leb, eqb}
-use lib.ListN.{length, take, drop, length-append, length-take, length-drop}
+use lib.Dec.{leb}
+use lib.ListN.{length, take, drop, length-append}
 use borrow.Author.Tests.{le-leb, lt-leb}
 use Rattle.refusal.specs.declared.Refusal.{Refusal}
 use Rattle.refusal.specs.declared.Refusal.the-variants as R
 use Rattle.big_endian.specs.Big.{numberAt}
-use Rattle.big_endian.specs.Buffer.{WroteAt, splice}
-use Rattle.big_endian.proofs.BufferLaws.{at-turn, at-end}
+use Rattle.big_endian.specs.Buffer.{splice}
+use Rattle.big_endian.proofs.BufferLaws.{at-turn}
 use Rattle.conversion.specs.declared.Entry.{Entry}
-use Rattle.conversion.specs.declared.Deviation.{Deviation}
-use Rattle.conversion.specs.Made.{Made, refused, made, pure, need, _>>=_, _>>_}
-use Rattle.conversion.specs.Fold.{notedAll, run}
-use Rattle.conversion.proofs.FoldLaws.{run-need, run-unmet, run-pure, run-map, run-same}
+use Rattle.conversion.specs.Fold.{run}
+use Rattle.conversion.proofs.FoldLaws.{run-need, run-unmet, run-pure, run-map}
 use Rattle.sheet.specs.Element as S
 use Rattle.stream.specs.Strings.{padded}
 use Rattle.stream.specs.Structure as D
@@ -28,17 +26,13 @@ use Rattle.cell.specs.Write.{writeProperties}
 use Rattle.records.specs.Bytes.{Placed, Recorded}
 use Rattle.records.proofs.RecordLaws.{length-record, length-padded, then-placed}
 use Rattle.forms.specs.Place.{valuesFrom, placeFrom, stringAt, propertyAt, propertyEnd, propertiesFrom}
+use Rattle.forms.proofs.StringLaws.{length-string}
 use Rattle.writing.specs.declared.Measured.{Measured}
 use Rattle.writing.specs.declared.Measured.the-variants as M
-use Rattle.writing.specs.Steps.{sizing, Outcome, stopped, written, putting}
+use Rattle.writing.specs.Steps.{sizing, written, putting}
 use Rattle.properties.specs.Tail.{said, propertyBytes, tailBytes, tailLength}
 
 -- ---- lengths
-
--- a string that lies in the block is as long as its number says
-pub length-string : (b : List ℕ) (at : ℕ) → at + 2 + numberAt 2 b at ≤ length b → length (stringAt b at) ≡ numberAt 2 b at
-unfolding stringAt
-length-string b at h = simp (length-take, length-drop) (omega arith)
 
 pub length-property : (b : List ℕ) (at : ℕ) → propertyEnd b at ≤ length b
     → length (propertyBytes (said (propertyAt b at))) ≡ 10 + (numberAt 2 b (at + 2) + numberAt 2 b (at + 2) % 2)
@@ -55,7 +49,7 @@ length-property b at h =
     go : (n m p u v : ℕ) → n ≡ m → p ≡ n + n % 2 → u ≡ 6 → v ≡ 4 + p → u + v ≡ 10 + (m + m % 2)
     go n m p u v a b c d = omega arith
 
-tail-cons : (q : D.Property) (qs : List D.Property) → tailBytes (q ∷ qs) ≡ propertyBytes q ++ tailBytes qs
+pub tail-cons : (q : D.Property) (qs : List D.Property) → tailBytes (q ∷ qs) ≡ propertyBytes q ++ tailBytes qs
 unfolding tailBytes streamBytes tailRecords
 tail-cons q qs = sym (append-assoc (recordBytes (wordRecord PROPATTR (q .attribute))) (recordBytes (stringRecord PROPVALUE (q .value))) (streamBytes (tailRecords qs [])))
 

@@ -2,7 +2,7 @@
 use mathlib.Core.Path.{_≡_, refl, sym, ap, _∙_, subst}
 use mathlib.Core.Bool.{Bool, true, false, cond}
 use mathlib.Core.Option.{Option, none, some}
-use mathlib.Core.List.{List, [], _∷_, _++_}
+use mathlib.Core.List.{List, [], _∷_, _++_, append-nil}
 use Prim.Native.Nat.{ℕ, _+_, _/_, _%_, _≤_, _<_}
 use native.Mathlib.Omega.{arith}
 use lib.Dec.{eqb}
@@ -116,6 +116,15 @@ pub then-rest : (r : Rec) (rs : List Rec) {n m : ℕ} {d cur last : List ℕ} {a
     → Recorded r n d cur at to → Placed (streamBytes rs) m cur last to end → Placed (streamBytes (r ∷ rs)) (n + m) d last at end
 unfolding streamBytes
 then-rest r rs w v = then-placed w v
+
+-- one that comes last
+pub alone : (r : Rec) {n : ℕ} {d cur : List ℕ} {at to : ℕ} → Recorded r n d cur at to → Placed (streamBytes (r ∷ [])) n d cur at to
+unfolding streamBytes
+alone r {n} {d} {cur} {at} {to} w = subst (λ (l : List ℕ). Placed l n d cur at to) (sym (append-nil (recordBytes r))) w
+
+pub length-first : (r : Rec) (rs : List Rec) → length (streamBytes (r ∷ rs)) ≡ 4 + length (r .content) + length (streamBytes rs)
+unfolding streamBytes
+length-first r rs = length-append (recordBytes r) (streamBytes rs) ∙ ap (λ (n : ℕ). n + length (streamBytes rs)) (length-record r)
 
 -- the first may be missing
 opt-is : {A : Type 0} (f : A → Rec) (x : Option A) (rs : List Rec) → optBytes f x ++ streamBytes rs ≡ streamBytes (opt f x rs)

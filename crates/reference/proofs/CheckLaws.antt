@@ -6,7 +6,7 @@ use mathlib.Core.List.{List}
 use Prim.Native.Nat.{ℕ, _≤_, _<_}
 use native.Mathlib.Omega.{arith}
 use lib.Dec.{leb, eqb}
-use lib.ListN.{length, length-take, length-drop}
+use lib.ListN.{length}
 use lib.IntN.{pos}
 use lib.Ieee.{Float, fin, le}
 use borrow.Author.Tests.{le-leb, lt-leb, leb-true, not-true, not-false}
@@ -21,6 +21,7 @@ use Rattle.cell.specs.Write.{isSome, one64, inUnit}
 use Rattle.forms.specs.declared.ReferencePlaces.{ReferencePlaces}
 use Rattle.forms.specs.Place.{pointAt, spacingAt, stringAt, stringEnd}
 use Rattle.forms.specs.Forms.{referenceAt}
+use Rattle.forms.proofs.StringLaws.{length-string}
 use Rattle.reference.specs.declared.Check.the-variants as C
 use Rattle.reference.specs.Reference.{guarded, lacking, Checks}
 
@@ -60,10 +61,6 @@ at-most lo n hi h = leb-true n hi (both-true (leb lo n) (leb n hi) h .1)
 name-length : (s : List ℕ) → isName s ≡ true → length s ≤ maxNameLength
 unfolding isName
 name-length s h = at-most 1 (length s) maxNameLength (both-true (within 1 (length s) maxNameLength) _ h .0)
-
-pub length-string : (b : List ℕ) (at : ℕ) → stringEnd b at ≤ length b → length (stringAt b at) ≡ numberAt 2 b at
-unfolding stringAt
-length-string b at h = simp (length-take, length-drop) (omega arith)
 
 -- ---- the ways out; n, c and r are the answers of the tests on name, columns and rows
 

@@ -1,12 +1,11 @@
 -- The records of a reference: their bytes in a row, and their length by the sheet alone. Assumes nothing.
 use mathlib.Core.Path.{_≡_, refl, sym, ap, ap₂, _∙_, subst}
-use mathlib.Core.Bool.{Bool, true, false, _||_, cond}
+use mathlib.Core.Bool.{Bool, true, false, cond}
 use mathlib.Core.List.{List, [], _∷_, _++_, append-nil}
 use mathlib.Core.Option.{Option}
 use Prim.Native.Nat.{ℕ, _+_, _%_, _≤_}
 use native.Mathlib.Omega.{arith}
-use lib.Dec.{lit≤}
-use lib.ListN.{length, length-append}
+use lib.ListN.{length}
 use lib.IntN.{ℤ}
 use lib.Ieee.{Float}
 use Rattle.big_endian.specs.Big.{numberAt}
@@ -21,25 +20,19 @@ use Rattle.cell.specs.Write.{writeSref, writeAref, writeReference}
 use Rattle.forms.specs.Forms.{referenceAt}
 use Rattle.stream.specs.Strings.{padded}
 use Rattle.stream.specs.Structure as D
-use Rattle.stream.specs.Record.{Rec, SREF, AREF, SNAME, XY, fourByte, recordBytes, streamBytes}
+use Rattle.stream.specs.Record.{Rec, SREF, AREF, SNAME, XY, fourByte, streamBytes}
 use Rattle.stream.specs.Records.{emptyRecord, stringRecord, colrowRecord, longBytes, xyRecord, endpointOf, stransRecords, srefRecords, arefRecords}
 use Rattle.forms.specs.declared.ReferencePlaces.{ReferencePlaces}
 use Rattle.forms.specs.Place.{stringAt, stringEnd}
+use Rattle.forms.proofs.StringLaws.{length-string}
 use Rattle.records.specs.Bytes.{headBytes, Placed, Recorded}
-use Rattle.records.proofs.RecordLaws.{length-record, length-padded, record-at, then-rest}
+use Rattle.records.proofs.RecordLaws.{length-padded, length-first, record-at, then-rest, alone}
 use Rattle.transform.specs.declared.Strans.{Strans}
-use Rattle.transform.specs.Strans.{saidOf, stransBytes, realLength, lengthOf, stransLength}
+use Rattle.transform.specs.Strans.{saidOf, stransBytes, stransLength}
 use Rattle.transform.proofs.StransLaws.{then-strans, length-strans, transform-length}
 use Rattle.array.specs.declared.Corners.{Corners}
 use Rattle.array.specs.Corners.{cornersFor, stepsOf}
 use Rattle.reference.specs.Reference.{referenceBytes, sizeOf, singleRest, arrayRest, isSingle, referenceLength, srefOf, arefOf}
-use Rattle.reference.proofs.CheckLaws.{length-string}
-
--- ---- one record that comes last
-
-pub alone : (r : Rec) {n : ℕ} {d cur : List ℕ} {at to : ℕ} → Recorded r n d cur at to → Placed (streamBytes (r ∷ [])) n d cur at to
-unfolding streamBytes
-alone r {n} {d} {cur} {at} {to} w = subst (λ (l : List ℕ). Placed l n d cur at to) (sym (append-nil (recordBytes r))) w
 
 -- ---- three points. z and w are what the machine reads back of x and y.
 
@@ -58,8 +51,37 @@ corners-placed c h p q r =
 -- ---- all records. n is the name, as it was read.
 
 module _ (b : List ℕ) (s : ReferencePlaces) (t : Strans) (inside : stringEnd b (s .name) ≤ length b) (name : List ℕ) (h : name ≡ stringAt b (s .name)) where
-  long : length name ≡ numberAt 2 b (s .name)
-  long = ap length h ∙ length-string b (s .name) inside
+  pub name-long : length name ≡ numberAt 2 b (s .name)
+  name-long = ap length h ∙ length-string b (s .name) inside
+
+  -- where there is room for all, there is for the name, for the transform and for what comes after it
+  module _ (rest : ℕ) {first d d1 : List ℕ} {at a1 : ℕ} (room : at + sizeOf (stransLength t) (numberAt 2 b (s .name)) rest ≤ length d) (w : Placed first 4 d d1 at a1) where
+    pub name-room : a1 + (4 + (length name + length name % 2)) ≤ length d1
+    name-room =
+        let l = name-long in
+        let e = w .end in
+        let k = w .long in
+        omega arith
+
+    module _ {d2 : List ℕ} {a2 : ℕ} (n : Recorded (stringRecord SNAME (padded name)) (4 + (length name + length name % 2)) d1 d2 a1 a2) where
+      after-name : a2 + (stransLength t + rest) ≤ length d2
+      after-name =
+          let l = name-long in
+          let e = w .end in
+          let k = w .long in
+          let f = n .end in
+          let g = n .long in
+          omega arith
+
+      pub strans-room : a2 + stransLength t ≤ length d2
+      strans-room = let r = after-name in omega arith
+
+      pub rest-room : {d3 : List ℕ} {a3 : ℕ} → Placed (stransBytes (saidOf t)) (stransLength t) d2 d3 a2 a3 → a3 + rest ≤ length d3
+      rest-room u =
+          let r = after-name in
+          let e = u .end in
+          let k = u .long in
+          omega arith
 
   -- of any length in front of the name's
   front : (code : ℕ) (rs : List Rec) (rest : ℕ) {d d1 d2 d3 last : List ℕ} {at a1 a2 a3 to : ℕ}
@@ -67,7 +89,7 @@ module _ (b : List ℕ) (s : ReferencePlaces) (t : Strans) (inside : stringEnd b
       → Placed (stransBytes (saidOf t)) (stransLength t) d2 d3 a2 a3 → Placed (streamBytes rs) rest d3 last a3 to
       → Placed (streamBytes (emptyRecord code ∷ stringRecord SNAME (padded (stringAt b (s .name))) ∷ stransRecords (saidOf t) rs)) (sizeOf (stransLength t) (numberAt 2 b (s .name)) rest) d last at to
   front code rs rest {d} {d1} {d2} {d3} {last} {at} {a1} {a2} {a3} {to} w n u v =
-      subst (λ (k : ℕ). Placed (streamBytes (emptyRecord code ∷ stringRecord SNAME (padded (stringAt b (s .name))) ∷ stransRecords (saidOf t) rs)) (sizeOf (stransLength t) k rest) d last at to) long
+      subst (λ (k : ℕ). Placed (streamBytes (emptyRecord code ∷ stringRecord SNAME (padded (stringAt b (s .name))) ∷ stransRecords (saidOf t) rs)) (sizeOf (stransLength t) k rest) d last at to) name-long
       (subst (λ (l : List ℕ). Placed (streamBytes (emptyRecord code ∷ stringRecord SNAME (padded l) ∷ stransRecords (saidOf t) rs)) (sizeOf (stransLength t) (length name) rest) d last at to) h
       (then-rest (emptyRecord code) _ w (then-rest (stringRecord SNAME (padded name)) _ n (then-strans (saidOf t) rs u v))))
 
@@ -102,32 +124,12 @@ same-sref b s t {x} {y} {z} {w} {n} {d} {cur} {at} {to} i j v = subst (λ (l : L
 pub length-sum : (f t n rest : ℕ) → f ≡ sizeOf t n 0 → f + rest ≡ sizeOf t n rest
 length-sum f t n rest h = omega arith
 
--- a transform is short
-real-short : (b : Bool) → realLength b ≤ 12
-real-short true = lit≤ tt
-real-short false = lit≤ tt
-
-pub strans-short : (t : Strans) → stransLength t ≤ 30
-unfolding lengthOf
-strans-short t =
-    let a = real-short (t .scaled) in
-    let b = real-short (t .turned) in
-    go (t .reflection || t .scaled || t .turned) (6 + (realLength (t .scaled) + realLength (t .turned))) (omega arith)
-  where
-    go : (b : Bool) (n : ℕ) → n ≤ 30 → cond b n 0 ≤ 30
-    go true n h = h
-    go false n h = lit≤ tt
-
-length-cons : (r : Rec) (rs : List Rec) → length (streamBytes (r ∷ rs)) ≡ 4 + length (r .content) + length (streamBytes rs)
-unfolding streamBytes
-length-cons r rs = length-append (recordBytes r) (streamBytes rs) ∙ ap (λ (n : ℕ). n + length (streamBytes rs)) (length-record r)
-
 -- u is what the transform's records say, of m bytes
 module _ (b : List ℕ) (s : ReferencePlaces) (u : Option D.Strans) (m : ℕ) (inside : stringEnd b (s .name) ≤ length b) (bytes : length (stransBytes u) ≡ m) where
   length-front : (code : ℕ) (rs : List Rec) (rest : ℕ) → length (streamBytes rs) ≡ rest
       → length (streamBytes (emptyRecord code ∷ stringRecord SNAME (padded (stringAt b (s .name))) ∷ stransRecords u rs)) ≡ sizeOf m (numberAt 2 b (s .name)) rest
   length-front code rs rest h =
-      go _ _ _ _ _ _ _ (length-cons (emptyRecord code) _) (length-cons (stringRecord SNAME (padded (stringAt b (s .name)))) (stransRecords u rs))
+      go _ _ _ _ _ _ _ (length-first (emptyRecord code) _) (length-first (stringRecord SNAME (padded (stringAt b (s .name)))) (stransRecords u rs))
       (length-padded (stringAt b (s .name))) (length-string b (s .name) inside) (length-strans u rs) bytes h
     where
       go : (a p n k q u v : ℕ) {x m w : ℕ} → x ≡ 4 + 0 + a → a ≡ 4 + p + q → p ≡ n + n % 2 → n ≡ k → q ≡ u + v → u ≡ m → v ≡ w → x ≡ 4 + ((4 + (k + k % 2)) + (m + w))
@@ -135,14 +137,14 @@ module _ (b : List ℕ) (s : ReferencePlaces) (u : Option D.Strans) (m : ℕ) (i
 
   pub length-sref : (o : Point ℤ) → length (referenceBytes (D.sref (record { name = padded (stringAt b (s .name)); transform = u; origin = o }))) ≡ sizeOf m (numberAt 2 b (s .name)) singleRest
   unfolding referenceBytes srefRecords streamBytes
-  length-sref o = length-front SREF (xyRecord (o ∷ []) ∷ []) singleRest (length-cons (xyRecord (o ∷ [])) [])
+  length-sref o = length-front SREF (xyRecord (o ∷ []) ∷ []) singleRest (length-first (xyRecord (o ∷ [])) [])
 
   pub length-aref : (c r : ℕ) (o k l : Point ℤ)
       → length (referenceBytes (D.aref (record { name = padded (stringAt b (s .name)); transform = u; columns = c; rows = r; origin = o; columnStep = k; rowStep = l }))) ≡ sizeOf m (numberAt 2 b (s .name)) arrayRest
   unfolding referenceBytes arefRecords streamBytes
   length-aref c r o k l =
       let xy = xyRecord (o ∷ endpointOf o k c ∷ endpointOf o l r ∷ []) in
-      length-front AREF (colrowRecord c r ∷ xy ∷ []) arrayRest (length-cons (colrowRecord c r) (xy ∷ []) ∙ ap (λ (n : ℕ). 8 + n) (length-cons xy []))
+      length-front AREF (colrowRecord c r ∷ xy ∷ []) arrayRest (length-first (colrowRecord c r) (xy ∷ []) ∙ ap (λ (n : ℕ). 8 + n) (length-first xy []))
 
 -- What the definition gives has the length that the sheet tells.
 module _ (policy : GdsRoundingPolicy) (d : Float) (b : List ℕ) (s : ReferencePlaces) (inside : stringEnd b (s .name) ≤ length b) where

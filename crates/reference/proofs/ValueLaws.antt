@@ -1,10 +1,9 @@
--- The transform, and then the conversions: each way out of the code; and what is measured and written of the answer. Assumes nothing.
+-- The transform, and then the conversions: each way out of the code. Assumes nothing.
 use mathlib.Core.Path.{_≡_, refl, sym, ap, ap₂, _∙_, subst}
 use mathlib.Core.Bool.{Bool, true, false, _&&_, cond}
 use mathlib.Core.Option.{Option}
 use mathlib.Core.List.{List, []}
 use Prim.Native.Nat.{ℕ}
-use lib.ListN.{length}
 use lib.IntN.{ℤ}
 use lib.Ieee.{Float}
 use Rattle.refusal.specs.declared.Refusal.{Refusal}
@@ -26,15 +25,10 @@ use Rattle.cell.specs.Write.{inUnit, writeTransform, writeSref, writeAref, writ
 use Rattle.forms.specs.declared.ReferencePlaces.{ReferencePlaces}
 use Rattle.forms.specs.Place.{pointAt, stringAt}
 use Rattle.forms.specs.Forms.{referenceAt}
-use Rattle.records.specs.Bytes.{Placed}
 use Rattle.transform.specs.declared.Strans.{Strans}
 use Rattle.transform.specs.Strans.{saidOf}
 use Rattle.transform.proofs.StransLaws.{transform-length, strans-length-is}
-use Rattle.writing.specs.declared.Measured.{Measured}
-use Rattle.writing.specs.declared.Measured.the-variants as M
-use Rattle.writing.specs.declared.Written.the-variants as W
-use Rattle.writing.specs.Steps as O
-use Rattle.writing.specs.Steps.{sizing, Measures, Outcome, putting, Owes, Writes}
+use Rattle.writing.specs.Ready.{Ready, stopped, ready}
 use Rattle.writing.proofs.StepLaws.{run-through}
 use Rattle.points.specs.declared.Pointed.{Pointed}
 use Rattle.points.specs.declared.Pointed.the-variants as P
@@ -47,7 +41,7 @@ use Rattle.array.proofs.CoordinateLaws.{refused-on, pure-on}
 use Rattle.array.proofs.CornerLaws.{corners-are}
 use Rattle.reference.specs.declared.ReferenceValues.{ReferenceValues}
 use Rattle.reference.specs.declared.ReferenceValues.the-variants as N
-use Rattle.reference.specs.Reference.{referenceBytes, sizeOf, singleRest, arrayRest, isSingle, referenceLength, guarded, Bounded, Encodes, afterTransform, turnedArray, srefOf, arefOf, Ready, stopped, ready, readyOf, Fits, Values}
+use Rattle.reference.specs.Reference.{sizeOf, singleRest, arrayRest, isSingle, referenceLength, guarded, Bounded, Encodes, afterTransform, turnedArray, srefOf, arefOf, Fits, Values}
 
 -- ---- 15, and then the array. t and u are the answers of the two tests.
 
@@ -95,7 +89,7 @@ module _ (policy : GdsRoundingPolicy) (d : Float) (b : List ℕ) (s : ReferenceP
   abbrev origin : Made (Point ℤ)
   origin = writePoint policy d originField 0 (pointAt b (s .origin))
 
-  abbrev sref-at : Point ℤ → Entry → Ready
+  abbrev sref-at : Point ℤ → Entry → Ready D.SaidBody
   sref-at o e′ = ready (srefOf b s t (o .x) (o .y)) e′
 
   single-run : run stopped e origin sref-at ≡ run stopped e (step-by true) ready
@@ -105,7 +99,7 @@ module _ (policy : GdsRoundingPolicy) (d : Float) (b : List ℕ) (s : ReferenceP
       (run-map stopped e (writeSref policy d (referenceAt b s) (saidOf t)) D.sref ready
       ∙ run-map stopped e origin (λ o. record { name = padded (stringAt b (s .name)); transform = saidOf t; origin = o }) (λ w e′. ready (D.sref w) e′))
 
-  abbrev point-ready : Pointed → Ready
+  abbrev point-ready : Pointed → Ready D.SaidBody
   point-ready (P.Refused x) = stopped x
   point-ready (P.At x y e′) = ready (srefOf b s t x y) e′
 
@@ -138,7 +132,7 @@ module _ (policy : GdsRoundingPolicy) (d : Float) (b : List ℕ) (s : ReferenceP
         rowStep = ps .rowStep;
       }
 
-  abbrev aref-at : ArrayPoints → Entry → Ready
+  abbrev aref-at : ArrayPoints → Entry → Ready D.SaidBody
   aref-at ps e′ = ready (D.aref (aref-of ps)) e′
 
   array-run : run stopped e array aref-at ≡ run stopped e (step-by false) ready
@@ -153,7 +147,7 @@ module _ (policy : GdsRoundingPolicy) (d : Float) (b : List ℕ) (s : ReferenceP
       ∙ run-same stopped e n _ _ (λ u e′. run-map stopped e′ m aref-of (λ w e″. ready (D.aref w) e″))
       ∙ sym (run-then stopped e n m aref-at))
 
-  abbrev array-ready : Array → Ready
+  abbrev array-ready : Array → Ready D.SaidBody
   array-ready (A.Refused x) = stopped x
   array-ready (A.Converted c e′) = ready (arefOf b s t c) e′
 
@@ -199,36 +193,3 @@ module _ (policy : GdsRoundingPolicy) (d : Float) (b : List ℕ) (s : ReferenceP
         subst (λ (m : Made D.SaidBody). Values b s e m r)
         (pure-on (writeTransform (s .degrees) (s .magnification) (s .reflection)) (afterTransform policy d (referenceAt b s)) (saidOf t) g ∙ h transform-then ∙ whole)
         v
-
--- ---- measured and written
-
-module _ (b : List ℕ) (s : ReferencePlaces) (e : Entry) (m : Made D.SaidBody) (r : ReferenceValues) (v : Values b s e m r) where
-  abbrev measuring : Ready → Measured
-  measuring (stopped x) = M.Refused x
-  measuring (ready w e′) = M.Through (length (referenceBytes w)) e′
-
-  measured : measuring (readyOf b s r) ≡ run M.Refused e m (sizing referenceBytes)
-  unfolding sizing
-  measured = ap measuring (v .is) ∙ run-through stopped ready measuring M.Refused (sizing referenceBytes) (λ x. refl) (λ w e′. refl) e m
-
-  pub measure-stopped : (x : Refusal) → readyOf b s r ≡ stopped x → Measures referenceBytes e m (M.Refused x)
-  measure-stopped x g = ap measuring (sym g) ∙ measured
-
-  pub measure-ready : (w : D.SaidBody) (e′ : Entry) (n : ℕ) → readyOf b s r ≡ ready w e′ → n ≡ length (referenceBytes w) → Measures referenceBytes e m (M.Through n e′)
-  measure-ready w e′ n g h = ap (λ (k : ℕ). M.Through k e′) h ∙ ap measuring (sym g) ∙ measured
-
-  module _ (at : ℕ) (before last : List ℕ) where
-    abbrev writing : Ready → Outcome
-    writing (stopped x) = O.stopped x
-    writing (ready w e′) = putting referenceBytes at before w e′
-
-    written : writing (readyOf b s r) ≡ run O.stopped e m (putting referenceBytes at before)
-    written = ap writing (v .is) ∙ run-through stopped ready writing O.stopped (putting referenceBytes at before) (λ x. refl) (λ w e′. refl) e m
-
-    pub write-stopped : (x : Refusal) → readyOf b s r ≡ stopped x → Writes referenceBytes e m at before last (W.Refused x)
-    write-stopped x g = subst (λ (o : Outcome). Owes o last (W.Refused x)) (ap writing (sym g) ∙ written) refl
-
-    pub write-ready : (w : D.SaidBody) (e′ : Entry) (n to : ℕ) → readyOf b s r ≡ ready w e′ → Placed (referenceBytes w) n before last at to → Writes referenceBytes e m at before last (W.Through to e′)
-    unfolding putting
-    write-ready w e′ n to g p =
-        subst (λ (o : Outcome). Owes o last (W.Through to e′)) (ap writing (sym g) ∙ written) (p .wrote .out, ap (λ (k : ℕ). W.Through k e′) (p .wrote .count))

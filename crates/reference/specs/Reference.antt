@@ -9,7 +9,6 @@ use lib.Dec.{leb, eqb}
 use lib.ListN.{length}
 use lib.IntN.{ℤ}
 use lib.Ieee.{Float}
-use Rattle.refusal.specs.declared.Refusal.{Refusal}
 use Rattle.refusal.specs.declared.Refusal.the-variants as R
 use Rattle.big_endian.specs.Big.{numberAt}
 use Rattle.conversion.specs.declared.Entry.{Entry}
@@ -29,6 +28,7 @@ use Rattle.forms.specs.declared.ReferencePlaces.{ReferencePlaces}
 use Rattle.forms.specs.Place.{spacingAt, stringAt}
 use Rattle.transform.specs.declared.Strans.{Strans}
 use Rattle.transform.specs.Strans.{saidOf, stransBytes, stransLength, transformLength}
+use Rattle.writing.specs.Ready.{Ready, stopped, ready}
 use Rattle.array.specs.declared.Corners.{Corners}
 use Rattle.array.specs.Corners.{cornersFor, stepsOf}
 use Rattle.reference.specs.declared.Check.{Check}
@@ -127,12 +127,7 @@ arefOf b s t c =
       rowStep = stepsOf c .rowStep;
     })
 
--- a refusal; or what is to be written, and the entry
-pub data Ready : Type 0 where
-  stopped : Refusal → Ready
-  ready : D.SaidBody → Entry → Ready
-
-abbrev pub readyOf : List ℕ → ReferencePlaces → ReferenceValues → Ready
+abbrev pub readyOf : List ℕ → ReferencePlaces → ReferenceValues → Ready D.SaidBody
 readyOf b s (N.Refused x) = stopped x
 readyOf b s (N.Single t x y e) = ready (srefOf b s t x y) e
 readyOf b s (N.Array t c e) = ready (arefOf b s t c) e

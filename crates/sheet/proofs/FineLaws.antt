@@ -12,7 +12,7 @@ use lib.ListN.{length, take, drop, length-take, List·getD-eq-default}
 use lib.Seq.{getD-take, getD-drop, length-take-le}
 use lib.Ieee.{Float, fits, binary64, ofBits}
 use lib.Ieee.Bits.{ofBits-fits}
-use mir.Val.{toZ}
+use mir.Val.{toZ, Fits}
 use mir.ValLaws.{toZ-fits}
 use mir.Syntax.{w32}
 use Rattle.big_endian.specs.Big.{Bytes, number}
@@ -23,8 +23,8 @@ use Rattle.parsing.specs.All.{All, Opt, absent, present}
 use Rattle.parsing.proofs.ParseLaws.{items-is, no-part, Gives, gives-pure, gives-fail, gives-when, gives-bind, gives-map, gives-times, gives-weaker, gives-whole}
 use Rattle.units.specs.declared.Unit.{Unit}
 use Rattle.units.specs.declared.Unit.the-variants as U
-use Rattle.sheet.specs.Form.{Form, integerKind, doubleKind, absentKind, bytes, num, code, flag, double, string, counted, coordinateOf, coordinate, point, spacingOf, spacing}
-use Rattle.sheet.specs.Element.{Head, Element, polygonKind, pathKind, textKind, nodeKind, referenceKind, property, headForm, shapeForm, pathTypeForm, pathForm, textForm, referenceForm, bodyForm, elementForm, headOf, elementOf}
+use Rattle.sheet.specs.Form.{Form, integerKind, doubleKind, absentKind, integerLimit, bytes, num, code, flag, double, string, counted, coordinateOf, coordinate, point, spacingOf, spacing}
+use Rattle.sheet.specs.Element.{Head, Element, polygonKind, pathKind, textKind, nodeKind, referenceKind, maxPathType, property, headForm, shapeForm, pathTypeForm, pathForm, textForm, referenceForm, bodyForm, elementForm, headOf, elementOf}
 use Rattle.sheet.specs.Element as S
 use Rattle.sheet.proofs.Fine.{FineUnit, FinePoint, FineProperty, FineHead, FineShape, FinePath, FineText, FineReference, FineBody, FineElement}
 use Rattle.sheet.proofs.Fine as F
@@ -106,12 +106,16 @@ counted-gives p g = bind (num-gives 2) (λ n h. gives-weaker Bytes (times n p) (
 
 -- ---- coordinates
 
+-- the limit of an integer is that of its four bytes
+four-bytes : (v : ℕ) → v < integerLimit → Fits w32 v
+four-bytes v h = record { fits = omega arith }
+
 kind-gives : (k v u : ℕ) → Gives Bytes (coordinateOf k v u) (Opt FineUnit)
 unfolding coordinateOf
 kind-gives k v u =
     either (eqb k integerKind)
-    (gives-when Bytes illFormed (ltb v (2 ^ 32)) _
-    (λ t. gives-pure Bytes (some (U.Integer (toZ w32 v) (ofBits binary64 u))) (present (toZ-fits w32 v (record { fits = ltb→lt v (2 ^ 32) t })))))
+    (gives-when Bytes illFormed (ltb v integerLimit) _
+    (λ t. gives-pure Bytes (some (U.Integer (toZ w32 v) (ofBits binary64 u))) (present (toZ-fits w32 v (four-bytes v (ltb→lt v integerLimit t))))))
     (either (eqb k doubleKind) (gives-pure Bytes (some (U.Float (ofBits binary64 v) (ofBits binary64 u))) (present tt))
     (either (eqb k absentKind) (gives-when Bytes illFormed (eqb v 0 && eqb u 0) _ (λ t. gives-pure Bytes none absent))
     (gives-fail Bytes illFormed)))
@@ -168,7 +172,10 @@ unfolding pathTypeForm
 path-type-gives =
     bind (num-gives 1)
     (λ b hb. either (eqb b 255) (gives-pure Bytes none absent)
-    (gives-when Bytes illFormed (leb b 2) (pure (some b)) (λ t. gives-pure Bytes (some b) (present (leb→le b 2 t)))))
+    (gives-when Bytes illFormed (leb b maxPathType) (pure (some b)) (λ t. gives-pure Bytes (some b) (present (up-to-two b (leb→le b maxPathType t))))))
+  where
+    up-to-two : (b : ℕ) → b ≤ maxPathType → b ≤ 2
+    up-to-two b h = omega arith
 
 path-gives : Gives Bytes pathForm FinePath
 unfolding pathForm

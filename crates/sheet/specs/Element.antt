@@ -120,8 +120,11 @@ shapeForm = do
   pure (record { layer = l; datatype = t; points = ps })
 
 -- "path type byte (0, 1, 2; 255 absent)"
+abbrev pub maxPathType : ℕ
+maxPathType = 2
+
 unfoldable pub pathTypeForm : Form (Option ℕ)
-pathTypeForm = num 1 >>= λ b. cond (eqb b 255) (pure none) (when illFormed (leb b 2) (pure (some b)))
+pathTypeForm = num 1 >>= λ b. cond (eqb b 255) (pure none) (when illFormed (leb b maxPathType) (pure (some b)))
 
 -- "Path: layer, type, path type byte, width, begin and end extension, point count, points"
 unfoldable pub pathForm : Form Path

@@ -56,10 +56,14 @@ doubleKind = 1
 abbrev pub absentKind : ℕ
 absentKind = 2
 
+-- the upper four of an integer's value bytes are zeros
+abbrev pub integerLimit : ℕ
+integerLimit = 2 ^ 32
+
 -- By its kind k, its 8 value bytes as a number v and its unit's as u. An integer is "four zeros, then a signed 32-bit value"; "absent means 16 zero bytes follow".
 unfoldable pub coordinateOf : ℕ → ℕ → ℕ → Form (Option Unit)
 coordinateOf k v u =
-    cond (eqb k integerKind) (when illFormed (ltb v (2 ^ 32)) (pure (some (U.Integer (toZ w32 v) (ofBits binary64 u)))))
+    cond (eqb k integerKind) (when illFormed (ltb v integerLimit) (pure (some (U.Integer (toZ w32 v) (ofBits binary64 u)))))
     (cond (eqb k doubleKind) (pure (some (U.Float (ofBits binary64 v) (ofBits binary64 u))))
     (cond (eqb k absentKind) (when illFormed (eqb v 0 && eqb u 0) (pure none))
     (fail illFormed)))

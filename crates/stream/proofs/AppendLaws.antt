@@ -15,7 +15,7 @@ unfolding opt
 opt-append f none a b = refl
 opt-append f (some v) a b = refl
 
-strans-append : (t : Option Strans) (a b : List Rec) → stransRecords t a ++ b ≡ stransRecords t (a ++ b)
+pub strans-append : (t : Option Strans) (a b : List Rec) → stransRecords t a ++ b ≡ stransRecords t (a ++ b)
 unfolding stransRecords
 strans-append none a b = refl
 strans-append (some t) a b = simp opt-append

@@ -2,46 +2,50 @@
 use mathlib.Core.Path.{_≡_, refl, sym, ap, ap₂, _∙_, subst}
 use mathlib.Core.Bool.{true, false}
 use mathlib.Core.Option.{Option, some}
-use mathlib.Core.List.{List, [], _∷_, append-nil}
+use mathlib.Core.List.{List, [], _∷_}
 use Prim.Native.Nat.{ℕ, _+_, _*_, _%_, _≤_}
 use native.Mathlib.Omega.{arith}
 use lib.Dec.{leb, leb→le}
-use lib.ListN.{length, length-append, length-take, length-drop}
+use lib.ListN.{length}
 use lib.IntN.{ℤ}
 use lib.Ieee.{Float}
 use Rattle.refusal.specs.declared.Refusal.{Refusal}
 use Rattle.refusal.specs.declared.Refusal.the-variants as R
 use Rattle.big_endian.specs.Big.{numberAt}
 use Rattle.units.specs.Point.{Point}
-use Rattle.conversion.specs.declared.Deviation.{Deviation}
 use Rattle.conversion.specs.declared.Entry.{Entry}
 use Rattle.conversion.specs.declared.GdsRoundingPolicy.{GdsRoundingPolicy}
 use Rattle.conversion.specs.Field.{originField}
 use Rattle.conversion.specs.Fold.{notedAll, run}
-use Rattle.conversion.specs.Made.{Made, refused, made, pure, _>>=_, _>>_}
+use Rattle.conversion.specs.Made.{Made, refused, pure, _>>=_, _>>_}
 use Rattle.conversion.specs.Points.{writePoint}
 use Rattle.conversion.proofs.FoldLaws.{run-bind, run-need, run-unmet, run-map}
 use Rattle.conversion.proofs.MadeLaws.{Yields, made-yields, steps, checked}
 use Rattle.sheet.specs.Element as S
 use Rattle.stream.specs.Strings.{padded}
 use Rattle.stream.specs.Structure as D
-use Rattle.stream.specs.Record.{Rec, TEXT, LAYER, TEXTTYPE, PRESENTATION, STRING, recordBytes, streamBytes}
+use Rattle.stream.specs.Record.{TEXT, LAYER, TEXTTYPE, PRESENTATION, STRING, streamBytes}
 use Rattle.stream.specs.Records.{emptyRecord, wordRecord, bitsRecord, xyRecord, stringRecord, opt, stransRecords, textRecords}
 use Rattle.cell.specs.Limits.{maxLayer, maxStringLength}
 use Rattle.cell.specs.Write.{writeTransform, writeText}
 use Rattle.records.specs.Bytes.{Placed, Recorded}
-use Rattle.records.proofs.RecordLaws.{length-record, length-padded, then-rest}
+use Rattle.records.proofs.RecordLaws.{length-padded, length-first, then-rest, alone}
 use Rattle.forms.specs.declared.TextPlaces.{TextPlaces}
 use Rattle.forms.specs.Place.{stringAt, stringEnd}
 use Rattle.forms.specs.Forms.{textAt}
+use Rattle.forms.proofs.StringLaws.{length-string}
 use Rattle.points.specs.declared.Pointed.{Pointed}
 use Rattle.points.specs.declared.Pointed.the-variants as P
 use Rattle.points.specs.Walk.{pointed, Converts}
 use Rattle.transform.specs.declared.Strans.{Strans}
 use Rattle.transform.specs.Strans.{saidOf, stransBytes, stransLength}
 use Rattle.transform.proofs.StransLaws.{then-strans, length-strans, length-strans-of, transform-length}
+use Rattle.writing.specs.Ready.{stopped, ready}
 use Rattle.writing.proofs.StepLaws.{run-through}
-use Rattle.text.specs.Text.{SaidText, textBytes, sizeOf, textLength, textOf, stopped, ready}
+use Rattle.writing.proofs.ReadyLaws.{ready-yields}
+use Rattle.text.specs.declared.TextValues.{TextValues}
+use Rattle.text.specs.declared.TextValues.the-variants as X
+use Rattle.text.specs.Text.{SaidText, textBytes, sizeOf, textLength, textOf, readyOf}
 
 -- what the records say of a text whose transform and origin are these
 abbrev said : S.Text → Option D.Strans → Point ℤ → SaidText
@@ -102,32 +106,7 @@ module _ {Z : Type 0} (stop : Refusal → Z) (e : Entry) (k : SaidText → Entry
         pub text-through : (x y : ℤ) (e′ : Entry) → r ≡ P.At x y e′ → k (said t u (record { x = x; y = y })) e′ ≡ run stop e (writeText policy d t) k
         text-through x y e′ l = origin (P.At x y e′) l
 
--- ---- what is ready
-
--- the step gives w, and e′ is the entry after it
-pub record Gives (e : Entry) (m : Made SaidText) (w : SaidText) (e′ : Entry) : Type 0 where
-  pub deviations : List Deviation
-  pub is : m ≡ made w deviations
-  pub entry : e′ ≡ notedAll e deviations
-
-pub ready-stops : (e : Entry) (m : Made SaidText) (x : Refusal) → stopped x ≡ run stopped e m ready → m ≡ refused x
-unfolding run
-ready-stops e (refused y) x h = cc
-ready-stops e (made a vs) x h = let z : _≡_ {A = ℕ} 0 1 = cc in absurd (omega arith)
-
-pub ready-gives : (e : Entry) (m : Made SaidText) (w : SaidText) (e′ : Entry) → ready w e′ ≡ run stopped e m ready → Gives e m w e′
-unfolding run
-ready-gives e (refused x) w e′ h = let z : _≡_ {A = ℕ} 0 1 = cc in absurd (omega arith)
-ready-gives e (made a vs) w e′ h =
-    let f : a ≡ w = cc in
-    let g : e′ ≡ notedAll e vs = cc in
-    record { deviations = vs; is = ap (λ (z : SaidText). made z vs) f; entry = g }
-
 -- ---- lengths
-
-length-first : (r : Rec) (rs : List Rec) → length (streamBytes (r ∷ rs)) ≡ 4 + length (r .content) + length (streamBytes rs)
-unfolding streamBytes
-length-first r rs = length-append (recordBytes r) (streamBytes rs) ∙ ap (λ (n : ℕ). n + length (streamBytes rs)) (length-record r)
 
 length-said : (t : S.Text) (u : Option D.Strans) (o : Point ℤ) → length (textBytes (said t u o)) ≡ sizeOf (length (stransBytes u)) (length (t .string))
 unfolding textBytes textRecords opt streamBytes
@@ -154,8 +133,8 @@ length-said t u o =
 module _ (b : List ℕ) (s : TextPlaces) (inside : stringEnd b (s .string) ≤ length b) where
   -- the string is as long as its number says
   pub string-long : length (textAt b s .string) ≡ numberAt 2 b (s .string)
-  unfolding textAt stringAt
-  string-long = simp (length-take, length-drop) (omega arith)
+  unfolding textAt
+  string-long = length-string b (s .string) inside
 
   pub length-text-of : (t : Strans) (x y : ℤ) → length (textBytes (textOf b s t x y)) ≡ sizeOf (stransLength t) (numberAt 2 b (s .string))
   length-text-of t x y =
@@ -181,9 +160,11 @@ module _ (b : List ℕ) (s : TextPlaces) (inside : stringEnd b (s .string) ≤ l
         let n = checked R.StringLength (checked R.LayerOrType y .then) in
         subst (λ (k : ℕ). k ≤ maxStringLength) string-long (leb→le (length (textAt b s .string)) maxStringLength (n .passed))
 
-  module _ (policy : GdsRoundingPolicy) (d : Float) (e e′ : Entry) (t : Strans) (x y : ℤ) (g : Gives e (writeText policy d (textAt b s)) (textOf b s t x y) e′) where
+  -- the same of the values that are ready
+  module _ (policy : GdsRoundingPolicy) (d : Float) (e : Entry) (r : TextValues) (h : readyOf b s r ≡ run stopped e (writeText policy d (textAt b s)) ready)
+      (t : Strans) (x y : ℤ) (e′ : Entry) (g : r ≡ X.Ready t x y e′) where
     yields : Yields (writeText policy d (textAt b s)) (textOf b s t x y)
-    yields = record { log = g .deviations; is = g .is }
+    yields = ready-yields e (writeText policy d (textAt b s)) (textOf b s t x y) e′ (ap (readyOf b s) (sym g) ∙ h)
 
     pub ready-length : sizeOf (stransLength t) (numberAt 2 b (s .string)) ≡ textLength b s
     ready-length = sym (length-text-of t x y) ∙ text-length policy d (textOf b s t x y) yields
@@ -192,10 +173,6 @@ module _ (b : List ℕ) (s : TextPlaces) (inside : stringEnd b (s .string) ≤ l
     ready-short = text-short policy d (textOf b s t x y) yields
 
 -- ---- the records in the output
-
-last-record : (r : Rec) {n : ℕ} {d last : List ℕ} {at end : ℕ} → Recorded r n d last at end → Placed (streamBytes (r ∷ [])) n d last at end
-unfolding streamBytes
-last-record r {n} {d} {last} {at} {end} w = subst (λ (l : List ℕ). Placed l n d last at end) (sym (append-nil (recordBytes r))) w
 
 pub text-placed : (b : List ℕ) (s : TextPlaces) (t : Strans) (x y z w : ℤ) (v n : ℕ) (str : List ℕ) {d1 d2 d3 d4 d5 d6 d7 d8 : List ℕ} {a1 a2 a3 a4 a5 a6 a7 a8 : ℕ}
     → z ≡ x → w ≡ y → v ≡ 4 * s .vertical + s .horizontal → str ≡ stringAt b (s .string) → length str ≡ n
@@ -214,7 +191,7 @@ text-placed b s t x y z w v n str {d1} {d2} {d3} {d4} {d5} {d6} {d7} {d8} {a1} {
     (subst (λ (k : ℤ). Recorded (xyRecord (record { x = k; y = w } ∷ [])) 12 d6 d7 a6 a7) i w6) in
     let r = subst (λ (l : List ℕ). Recorded (stringRecord STRING (padded l)) (4 + (n + n % 2)) d7 d8 a7 a8) g
     (subst (λ (k : ℕ). Recorded (stringRecord STRING (padded str)) (4 + (k + k % 2)) d7 d8 a7 a8) h w7) in
-    then-rest _ _ w1 (then-rest _ _ w2 (then-rest _ _ w3 (then-rest _ _ p (then-strans (saidOf t) _ w5 (then-rest _ _ q (last-record _ r))))))
+    then-rest _ _ w1 (then-rest _ _ w2 (then-rest _ _ w3 (then-rest _ _ p (then-strans (saidOf t) _ w5 (then-rest _ _ q (alone _ r))))))
 
 -- a point as the machine reads it back
 pub same-point : (b : List ℕ) (s : TextPlaces) (t : Strans) {n : ℕ} {d d′ : List ℕ} {at to : ℕ} (x y z w : ℤ) → z ≡ x → w ≡ y

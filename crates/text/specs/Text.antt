@@ -3,9 +3,7 @@ use mathlib.Core.Option.{Option, some}
 use mathlib.Core.List.{List, []}
 use Prim.Native.Nat.{ℕ, _+_, _*_, _%_}
 use lib.IntN.{ℤ}
-use Rattle.refusal.specs.declared.Refusal.{Refusal}
 use Rattle.big_endian.specs.Big.{numberAt}
-use Rattle.conversion.specs.declared.Entry.{Entry}
 use Rattle.stream.specs.Strings.{padded}
 use Rattle.stream.specs.Structure as D
 use Rattle.stream.specs.Record.{streamBytes}
@@ -14,6 +12,7 @@ use Rattle.forms.specs.declared.TextPlaces.{TextPlaces}
 use Rattle.forms.specs.Place.{stringAt}
 use Rattle.transform.specs.declared.Strans.{Strans}
 use Rattle.transform.specs.Strans.{saidOf, transformLength}
+use Rattle.writing.specs.Ready.{Ready, stopped, ready}
 use Rattle.text.specs.declared.TextValues.{TextValues}
 use Rattle.text.specs.declared.TextValues.the-variants as X
 
@@ -47,11 +46,6 @@ textOf b s t x y =
       string = padded (stringAt b (s .string));
     }
 
--- a refusal; or what is to be written, and the entry
-pub data Ready : Type 0 where
-  stopped : Refusal → Ready
-  ready : SaidText → Entry → Ready
-
-abbrev pub readyOf : List ℕ → TextPlaces → TextValues → Ready
+abbrev pub readyOf : List ℕ → TextPlaces → TextValues → Ready SaidText
 readyOf b s (X.Refused x) = stopped x
 readyOf b s (X.Ready t x y e) = ready (textOf b s t x y) e

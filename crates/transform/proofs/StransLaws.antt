@@ -20,6 +20,7 @@ use Rattle.conversion.proofs.MadeLaws.{Yields, no-yield, made-yields, steps, ch
 use Rattle.stream.specs.Structure as D
 use Rattle.stream.specs.Record.{Rec, STRANS, MAG, ANGLE, recordBytes, streamBytes}
 use Rattle.stream.specs.Records.{bitsRecord, realRecord, opt, stransBits, stransRecords}
+use Rattle.stream.proofs.AppendLaws.{strans-append}
 use Rattle.stream.proofs.BytesLaws.{stream-append}
 use Rattle.cell.specs.Write.{isSome, one64, encodable, writeReal, writeMagnification, writeAngle, stransOf, writeTransform}
 use Rattle.records.specs.Bytes.{Placed, Recorded, optBytes, optionOf}
@@ -29,19 +30,9 @@ use Rattle.transform.specs.Strans.{saidOf, stransBytes, realLength, leng
 
 -- ---- in front of the rest
 
-opt-before : {A : Type 0} (f : A → Rec) (x : Option A) (a b : List Rec) → opt f x a ++ b ≡ opt f x (a ++ b)
-unfolding opt
-opt-before f none a b = refl
-opt-before f (some v) a b = refl
-
-strans-before : (t : Option D.Strans) (rs : List Rec) → stransRecords t [] ++ rs ≡ stransRecords t rs
-unfolding stransRecords
-strans-before none rs = refl
-strans-before (some t) rs = simp opt-before
-
 strans-rest : (t : Option D.Strans) (rs : List Rec) → stransBytes t ++ streamBytes rs ≡ streamBytes (stransRecords t rs)
 unfolding stransBytes
-strans-rest t rs = sym (stream-append (stransRecords t []) rs) ∙ ap streamBytes (strans-before t rs)
+strans-rest t rs = sym (stream-append (stransRecords t []) rs) ∙ ap streamBytes (strans-append t [] rs)
 
 -- the transform, then the rest
 pub then-strans : (t : Option D.Strans) (rs : List Rec) {n m : ℕ} {d cur last : List ℕ} {at to end : ℕ}
@@ -215,3 +206,6 @@ length-small r s t = go (r || s || t) (real-small s) (real-small t)
     go : (b : Bool) → realLength s ≤ 12 → realLength t ≤ 12 → cond b (6 + (realLength s + realLength t)) 0 ≤ 30
     go true h k = omega arith
     go false h k = omega arith
+
+pub strans-short : (s : Strans) → stransLength s ≤ 30
+strans-short s = length-small (s .reflection) (s .scaled) (s .turned)

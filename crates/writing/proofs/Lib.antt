@@ -1,2 +1,3 @@
 -- Laws that other crates' proofs cite.
 pub mod StepLaws
+pub mod ReadyLaws

@@ -1,2 +1,3 @@
 -- What measuring and writing promise of a step of the definitions.
 pub mod Steps
+pub mod Ready

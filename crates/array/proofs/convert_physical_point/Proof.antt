@@ -6,9 +6,10 @@ use mir.Syntax.{w32}
 use mir.Val.{SFits}
 use mir.ValLaws.{toZ-ofZ}
 use Rattle.conversion.specs.Answer.{pointOf}
+use Rattle.conversion.specs.Convert.{convertPhysical}
 use Rattle.conversion.specs.Field.{xAxis, yAxis}
 use Rattle.conversion.specs.Points.{spot}
-use Rattle.points.specs.Walk.{ValueGrown}
+use Rattle.points.specs.Walk.{ValueGrown, Values}
 use Rattle.points.proofs.ValueLaws.{same-values}
 use Rattle.array.proofs.CoordinateLaws.{point-stops, point-stops-at-y, point-made}
 use borrow.Author.Needs.{needs}
@@ -44,40 +45,39 @@ enum-known-refusal2 c = search needs
 enum-known-y : tie.Need-enum-known-y
 enum-known-y c = search needs
 
+-- the values of x and y are the definition's
+x-ends : (k : tie.After-record-quantization) → Values (k .before .before .args .entry) (convertPhysical (k .before .before .args .policy) (k .before .before .args .d) (spot (k .before .before .args .field) xAxis 0) (pointOf (k .before .before .args .p) .x)) (k .record-quantization .result)
+x-ends k = same-values (k .before .convert-physical .ensures (spot (k .before .before .args .field) xAxis 0)) (k .record-quantization .ensures)
+
+y-ends : (k : tie.After-record-quantization2) → Values (k .before .before .before .x .given .0 .1 .0) (convertPhysical (k .before .before .before .before .before .before .before .args .policy) (k .before .before .before .before .before .before .before .args .d) (spot (k .before .before .before .before .before .before .before .args .field) yAxis 0) (pointOf (k .before .before .before .before .before .before .before .args .p) .y)) (k .record-quantization2 .result)
+y-ends k = same-values (k .before .convert-physical2 .ensures (spot (k .before .before .before .before .before .before .before .args .field) yAxis 0)) (k .record-quantization2 .ensures)
+
 returns : tie.Need-returns
 returns c =
     let a = c .before .before .before .before .before .args in
-    let r = c .before .before .before .record-quantization in
-    let p = pointOf (a .p) in
-    let h = same-values (c .before .before .before .before .convert-physical .ensures (spot (a .field) xAxis 0)) (r .ensures) in
+    let k = c .before .before .before in
     let g = c .before .refusal .given in
-    point-stops (a .policy) (a .d) (a .field) p (a .entry) (r .result) h (g .0 .0) (g .1)
+    point-stops (a .policy) (a .d) (a .field) (pointOf (a .p)) (a .entry) (k .record-quantization .result) (x-ends k) (g .0 .0) (g .1)
 
 returns-2 : tie.Need-returns-2
 returns-2 c =
     let a = c .before .before .before .before .before .before .before .before .before .before .args in
-    let r = c .before .before .before .before .before .before .before .before .record-quantization in
-    let p = pointOf (a .p) in
-    let h = same-values (c .before .before .before .before .before .before .before .before .before .convert-physical .ensures (spot (a .field) xAxis 0)) (r .ensures) in
+    let k = c .before .before .before .before .before .before .before .before in
+    let l = c .before .before .before in
     let g = c .before .before .before .before .before .before .x .given in
-    let s = c .before .before .before .record-quantization2 in
-    let j = same-values (c .before .before .before .before .convert-physical2 .ensures (spot (a .field) yAxis 0)) (s .ensures) in
-    let k = c .before .refusal2 .given in
-    point-stops-at-y (a .policy) (a .d) (a .field) p (a .entry) (r .result) h (g .0 .0) (g .0 .1 .0) (g .1) (s .result) j (k .0 .0) (k .1)
+    let h = c .before .refusal2 .given in
+    point-stops-at-y (a .policy) (a .d) (a .field) (pointOf (a .p)) (a .entry) (k .record-quantization .result) (x-ends k) (g .0 .0) (g .0 .1 .0) (g .1) (l .record-quantization2 .result) (y-ends l) (h .0 .0) (h .1)
 
 returns-3 : tie.Need-returns-3
 returns-3 c =
     let a = c .before .before .before .before .before .before .before .before .before .before .args in
-    let r = c .before .before .before .before .before .before .before .before .record-quantization in
-    let p = pointOf (a .p) in
-    let h = same-values (c .before .before .before .before .before .before .before .before .before .convert-physical .ensures (spot (a .field) xAxis 0)) (r .ensures) in
+    let k = c .before .before .before .before .before .before .before .before in
+    let l = c .before .before .before in
     let g = c .before .before .before .before .before .before .x .given in
-    let s = c .before .before .before .record-quantization2 in
-    let j = same-values (c .before .before .before .before .convert-physical2 .ensures (spot (a .field) yAxis 0)) (s .ensures) in
-    let k = c .before .y .given in
+    let h = c .before .y .given in
     let f : SFits w32 (g .0 .0) = search needs in
-    let f2 : SFits w32 (k .0 .0) = search needs in
-    point-made (a .policy) (a .d) (a .field) p (a .entry) (r .result) h (g .0 .0) (g .0 .1 .0) (g .1) (s .result) j (k .0 .0) (k .0 .1 .0) (k .1) _ _ (toZ-ofZ w32 (g .0 .0) f) (toZ-ofZ w32 (k .0 .0) f2)
+    let f2 : SFits w32 (h .0 .0) = search needs in
+    point-made (a .policy) (a .d) (a .field) (pointOf (a .p)) (a .entry) (k .record-quantization .result) (x-ends k) (g .0 .0) (g .0 .1 .0) (g .1) (l .record-quantization2 .result) (y-ends l) (h .0 .0) (h .0 .1 .0) (h .1) _ _ (toZ-ofZ w32 (g .0 .0) f) (toZ-ofZ w32 (h .0 .0) f2)
 
 pub convert-physical-point-spec : {M : Type 1} → statement M
 convert-physical-point-spec =

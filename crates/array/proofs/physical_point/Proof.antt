@@ -36,38 +36,39 @@ enum-known-refusal2 c = search needs
 enum-known-y : tie.Need-enum-known-y
 enum-known-y c = search needs
 
+x-is : (k : tie.After-physical-value) → physicalOf (k .physical-value .result) ≡ physicalValue (unitAt (k .before .before .before .args .b .now) (k .before .before .before .args .at))
+x-is k = k .physical-value .ensures ∙ ap physicalValue (k .before .unit-at .ensures)
+
+y-is : (k : tie.After-physical-value2) → physicalOf (k .physical-value2 .result) ≡ physicalValue (unitAt (k .before .before .before .before .before .before .before .before .args .b .now) (k .before .before .before .before .before .before .before .before .args .at + 17))
+y-is k = k .physical-value2 .ensures ∙ ap physicalValue (k .before .unit-at2 .ensures)
+
 returns : tie.Need-returns
 unfolding pointAt
 returns c =
     let a = c .before .before .before .before .before .before .args in
-    let v = c .before .before .before .physical-value in
-    let p = pointAt (a .b .now) (a .at) in
-    let h : physicalOf (v .result) ≡ physicalValue (unitAt (a .b .now) (a .at)) = v .ensures ∙ ap physicalValue (c .before .before .before .before .unit-at .ensures) in
-    physical-x-refused p (v .result) h (c .before .refusal .given .0 .0) (c .before .refusal .given .1)
+    let v = c .before .before .before in
+    let g = c .before .refusal .given in
+    physical-x-refused (pointAt (a .b .now) (a .at)) (v .physical-value .result) (x-is v) (g .0 .0) (g .1)
 
 returns-2 : tie.Need-returns-2
 unfolding pointAt
 returns-2 c =
     let a = c .before .before .before .before .before .before .before .before .before .before .before .args in
-    let v = c .before .before .before .before .before .before .before .before .physical-value in
-    let p = pointAt (a .b .now) (a .at) in
-    let h : physicalOf (v .result) ≡ physicalValue (unitAt (a .b .now) (a .at)) = v .ensures ∙ ap physicalValue (c .before .before .before .before .before .before .before .before .before .unit-at .ensures) in
+    let v = c .before .before .before .before .before .before .before .before in
+    let w = c .before .before .before in
     let g = c .before .before .before .before .before .before .x .given in
-    let w = c .before .before .before .physical-value2 in
-    let i : physicalOf (w .result) ≡ physicalValue (unitAt (a .b .now) (a .at + 17)) = w .ensures ∙ ap physicalValue (c .before .before .before .before .unit-at2 .ensures) in
-    physical-y-refused p (v .result) h (g .0 .0) (g .1) (w .result) i (c .before .refusal2 .given .0 .0) (c .before .refusal2 .given .1)
+    let h = c .before .refusal2 .given in
+    physical-y-refused (pointAt (a .b .now) (a .at)) (v .physical-value .result) (x-is v) (g .0 .0) (g .1) (w .physical-value2 .result) (y-is w) (h .0 .0) (h .1)
 
 returns-3 : tie.Need-returns-3
 unfolding pointAt
 returns-3 c =
     let a = c .before .before .before .before .before .before .before .before .before .before .before .args in
-    let v = c .before .before .before .before .before .before .before .before .physical-value in
-    let p = pointAt (a .b .now) (a .at) in
-    let h : physicalOf (v .result) ≡ physicalValue (unitAt (a .b .now) (a .at)) = v .ensures ∙ ap physicalValue (c .before .before .before .before .before .before .before .before .before .unit-at .ensures) in
+    let v = c .before .before .before .before .before .before .before .before in
+    let w = c .before .before .before in
     let g = c .before .before .before .before .before .before .x .given in
-    let w = c .before .before .before .physical-value2 in
-    let i : physicalOf (w .result) ≡ physicalValue (unitAt (a .b .now) (a .at + 17)) = w .ensures ∙ ap physicalValue (c .before .before .before .before .unit-at2 .ensures) in
-    physical-both p (v .result) h (g .0 .0) (g .1) (w .result) i (c .before .y .given .0 .0) (c .before .y .given .1)
+    let h = c .before .y .given in
+    physical-both (pointAt (a .b .now) (a .at)) (v .physical-value .result) (x-is v) (g .0 .0) (g .1) (w .physical-value2 .result) (y-is w) (h .0 .0) (h .1)
 
 pub physical-point-spec : {M : Type 1} → statement M
 physical-point-spec =

@@ -1,10 +1,21 @@
 -- `put_body` meets its contract: each kind's function writes the body's bytes. Assumes nothing.
+use mathlib.Core.Path.{_≡_}
+use Prim.Native.Nat.{_≤_}
 use native.Mathlib.Omega.{arith}
+use lib.ListN.{length}
 use borrow.Author.Needs.{needs}
+use Rattle.forms.specs.declared.BodyPlaces.{BodyPlaces}
 use Rattle.elements.specs.Block.{bodyLength}
-use Rattle.elements.proofs.PutLaws.{put-polygon, put-path, put-text, put-node, put-reference, room-of}
+use Rattle.elements.proofs.BodyLaws.{polygon-as, path-as, text-as, node-as, reference-as}
+use Rattle.elements.proofs.PutLaws.{Room, room-of}
 use Rattle.elements.proofs.put_body.Statement.{statement}
 use Rattle.elements.proofs.put_body.Tie as tie
+
+room : (k : tie.Start) {t : BodyPlaces} → k .args .body ≡ t → Room (k .args .b .now) t (length (k .args .part .now))
+room k h = room-of h (k .pre .0) (k .pre .1 .1)
+
+few : (k : tie.Start) → k .args .entry .count ≤ 16
+few k = let n = k .pre .1 .0 in omega arith
 
 enum-known-body : tie.Need-enum-known-body
 enum-known-body c = search needs
@@ -12,11 +23,9 @@ enum-known-body c = search needs
 put-polygon-requires : tie.Need-put-polygon-requires
 unfolding bodyLength
 put-polygon-requires c κs =
-    let p = c .before .before .before .before .before .before .pre in
-    let g = c .before .before .body .given in
-    let r = room-of (g .1) (p .0) (p .1 .1) in
-    let n = p .1 .0 in
-    (r .inside, (r .fits, omega arith))
+    let s = c .before .before .before .before .before .before in
+    let r = room s (c .before .before .body .given .1) in
+    (r .inside, (r .fits, few s))
 
 enum-known-body-2 : tie.Need-enum-known-body-2
 enum-known-body-2 c = search needs
@@ -24,11 +33,9 @@ enum-known-body-2 c = search needs
 put-path-requires : tie.Need-put-path-requires
 unfolding bodyLength
 put-path-requires c κs =
-    let p = c .before .before .before .before .before .before .pre in
-    let g = c .before .before .body2 .given in
-    let r = room-of (g .1) (p .0) (p .1 .1) in
-    let n = p .1 .0 in
-    (r .inside, (omega arith, r .fits))
+    let s = c .before .before .before .before .before .before in
+    let r = room s (c .before .before .body2 .given .1) in
+    (r .inside, (s .pre .1 .0, r .fits))
 
 enum-known-body-3 : tie.Need-enum-known-body-3
 enum-known-body-3 c = search needs
@@ -36,11 +43,9 @@ enum-known-body-3 c = search needs
 put-text-requires : tie.Need-put-text-requires
 unfolding bodyLength
 put-text-requires c κs =
-    let p = c .before .before .before .before .before .before .pre in
-    let g = c .before .before .body3 .given in
-    let r = room-of (g .1) (p .0) (p .1 .1) in
-    let n = p .1 .0 in
-    (r .inside, (omega arith, r .fits))
+    let s = c .before .before .before .before .before .before in
+    let r = room s (c .before .before .body3 .given .1) in
+    (r .inside, (omega (arith, few s), r .fits))
 
 enum-known-body-4 : tie.Need-enum-known-body-4
 enum-known-body-4 c = search needs
@@ -48,11 +53,9 @@ enum-known-body-4 c = search needs
 put-node-requires : tie.Need-put-node-requires
 unfolding bodyLength
 put-node-requires c κs =
-    let p = c .before .before .before .before .before .before .pre in
-    let g = c .before .before .body4 .given in
-    let r = room-of (g .1) (p .0) (p .1 .1) in
-    let n = p .1 .0 in
-    (r .inside, (r .fits, omega arith))
+    let s = c .before .before .before .before .before .before in
+    let r = room s (c .before .before .body4 .given .1) in
+    (r .inside, (r .fits, few s))
 
 enum-known-body-5 : tie.Need-enum-known-body-5
 enum-known-body-5 c = search needs
@@ -60,11 +63,9 @@ enum-known-body-5 c = search needs
 put-reference-requires : tie.Need-put-reference-requires
 unfolding bodyLength
 put-reference-requires c κs =
-    let p = c .before .before .before .before .before .before .pre in
-    let g = c .before .before .body5 .given in
-    let r = room-of (g .1) (p .0) (p .1 .1) in
-    let n = p .1 .0 in
-    (r .inside, (omega arith, r .fits))
+    let s = c .before .before .before .before .before .before in
+    let r = room s (c .before .before .body5 .given .1) in
+    (r .inside, (few s, r .fits))
 
 same-length : tie.Need-same-length
 same-length c = search needs
@@ -74,7 +75,7 @@ returns c =
     let a = c .before .before .before .before .before .before .before .before .before .args in
     let g = c .before .before .before .before .before .body .given in
     let r = c .before .before .put-polygon in
-    put-polygon (a .policy) (a .d) (a .b .now) (a .entry) (a .part .now) (r .last .1 .1 .1 .1 .0) (r .result) (g .0 .0) (g .1) (r .ensures)
+    polygon-as (a .policy) (a .d) (a .b .now) (g .0 .0) (g .1) .writes (a .entry) 0 (a .part .now) (r .last .1 .1 .1 .1 .0) (r .result) (r .ensures)
 
 same-length-2 : tie.Need-same-length-2
 same-length-2 c = search needs
@@ -84,7 +85,7 @@ returns-2 c =
     let a = c .before .before .before .before .before .before .before .before .before .args in
     let g = c .before .before .before .before .before .body2 .given in
     let r = c .before .before .put-path in
-    put-path (a .policy) (a .d) (a .b .now) (a .entry) (a .part .now) (r .last .1 .1 .1 .1 .0) (r .result) (g .0 .0) (g .1) (r .ensures)
+    path-as (a .policy) (a .d) (a .b .now) (g .0 .0) (g .1) .writes (a .entry) 0 (a .part .now) (r .last .1 .1 .1 .1 .0) (r .result) (r .ensures)
 
 same-length-3 : tie.Need-same-length-3
 same-length-3 c = search needs
@@ -94,7 +95,7 @@ returns-3 c =
     let a = c .before .before .before .before .before .before .before .before .before .args in
     let g = c .before .before .before .before .before .body3 .given in
     let r = c .before .before .put-text in
-    put-text (a .policy) (a .d) (a .b .now) (a .entry) (a .part .now) (r .last .1 .1 .1 .1 .0) (r .result) (g .0 .0) (g .1) (r .ensures)
+    text-as (a .policy) (a .d) (a .b .now) (g .0 .0) (g .1) .writes (a .entry) 0 (a .part .now) (r .last .1 .1 .1 .1 .0) (r .result) (r .ensures)
 
 same-length-4 : tie.Need-same-length-4
 same-length-4 c = search needs
@@ -104,7 +105,7 @@ returns-4 c =
     let a = c .before .before .before .before .before .before .before .before .before .args in
     let g = c .before .before .before .before .before .body4 .given in
     let r = c .before .before .put-node in
-    put-node (a .policy) (a .d) (a .b .now) (a .entry) (a .part .now) (r .last .1 .1 .1 .1 .0) (r .result) (g .0 .0) (g .1) (r .ensures)
+    node-as (a .policy) (a .d) (a .b .now) (g .0 .0) (g .1) .writes (a .entry) 0 (a .part .now) (r .last .1 .1 .1 .1 .0) (r .result) (r .ensures)
 
 same-length-5 : tie.Need-same-length-5
 same-length-5 c = search needs
@@ -114,7 +115,7 @@ returns-5 c =
     let a = c .before .before .before .before .before .before .before .before .before .args in
     let g = c .before .before .before .before .before .body5 .given in
     let r = c .before .before .put-reference in
-    put-reference (a .policy) (a .d) (a .b .now) (a .entry) (a .part .now) (r .last .1 .1 .1 .1 .0) (r .result) (g .0 .0) (g .1) (r .ensures)
+    reference-as (a .policy) (a .d) (a .b .now) (g .0 .0) (g .1) .writes (a .entry) 0 (a .part .now) (r .last .1 .1 .1 .1 .0) (r .result) (r .ensures)
 
 pub put-body-spec : {M : Type 1} → statement M
 put-body-spec =

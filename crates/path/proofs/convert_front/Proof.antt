@@ -1,5 +1,5 @@
 -- `convert_front` meets its contract. Assumes nothing.
-use mathlib.Core.Path.{_≡_, refl, sym, ap, _∙_}
+use mathlib.Core.Path.{refl, sym, ap, _∙_}
 use mathlib.Core.Bool.{true, false}
 use Prim.Native.Nat.{ℕ}
 use lib.Dec.{leb}
@@ -8,7 +8,7 @@ use Rattle.cell.specs.Limits.{within}
 use Rattle.forms.specs.Forms.{pathAt}
 use Rattle.points.proofs.WalkLaws.{length-from}
 use Rattle.validation.proofs.StampLaws.{was-true, was-false}
-use Rattle.path.specs.Front.{refuses, gives}
+use Rattle.writing.specs.Ready.{stopped, ready}
 use Rattle.path.proofs.FrontLaws.{wrong-count, right-count}
 use borrow.Author.Needs.{needs}
 use Rattle.path.proofs.convert_front.Statement.{statement}
@@ -19,22 +19,22 @@ within-requires c κs = search needs
 
 returns : tie.Need-returns
 unfolding pathAt
-returns c = let a = c .before .before .before .args in let p = pathAt (a .b .now) (a .path) in let h = ap (λ (n : ℕ). within 2 n 8191) (length-from (a .path .count) (a .b .now) (a .path .points)) ∙ sym (c .before .within .ensures) ∙ was-false _ (c .if1 .taken) in record { is = sym (wrong-count (a .policy) (a .d) p refuses (a .entry) gives h); fits = tt }
+returns c = let a = c .before .before .before .args in let p = pathAt (a .b .now) (a .path) in let h = ap (λ (n : ℕ). within 2 n 8191) (length-from (a .path .count) (a .b .now) (a .path .points)) ∙ sym (c .before .within .ensures) ∙ was-false _ (c .if1 .taken) in record { is = sym (wrong-count (a .policy) (a .d) p stopped (a .entry) ready h); fits = tt }
 
 returns-2 : tie.Need-returns-2
 unfolding pathAt
-returns-2 c = let a = c .before .before .before .before .before .args in let p = pathAt (a .b .now) (a .path) in let h = ap (λ (n : ℕ). within 2 n 8191) (length-from (a .path .count) (a .b .now) (a .path .points)) ∙ sym (c .before .before .before .within .ensures) ∙ was-true _ (c .before .before .if1 .left) in record { is = sym (right-count (a .policy) (a .d) p refuses (a .entry) gives false (leb (a .path .datatype) 255) h (lt-leb _ _ (c .if2 .taken)) refl); fits = tt }
+returns-2 c = let a = c .before .before .before .before .before .args in let p = pathAt (a .b .now) (a .path) in let h = ap (λ (n : ℕ). within 2 n 8191) (length-from (a .path .count) (a .b .now) (a .path .points)) ∙ sym (c .before .before .before .within .ensures) ∙ was-true _ (c .before .before .if1 .left) in record { is = sym (right-count (a .policy) (a .d) p stopped (a .entry) ready false (leb (a .path .datatype) 255) h (lt-leb _ _ (c .if2 .taken)) refl); fits = tt }
 
 returns-3 : tie.Need-returns-3
 unfolding pathAt
-returns-3 c = let a = c .before .before .before .before .before .before .before .args in let p = pathAt (a .b .now) (a .path) in let h = ap (λ (n : ℕ). within 2 n 8191) (length-from (a .path .count) (a .b .now) (a .path .points)) ∙ sym (c .before .before .before .before .before .within .ensures) ∙ was-true _ (c .before .before .before .before .if1 .left) in record { is = sym (right-count (a .policy) (a .d) p refuses (a .entry) gives true false h (le-leb _ _ (c .before .before .if2 .left)) (lt-leb _ _ (c .if3 .taken))); fits = tt }
+returns-3 c = let a = c .before .before .before .before .before .before .before .args in let p = pathAt (a .b .now) (a .path) in let h = ap (λ (n : ℕ). within 2 n 8191) (length-from (a .path .count) (a .b .now) (a .path .points)) ∙ sym (c .before .before .before .before .before .within .ensures) ∙ was-true _ (c .before .before .before .before .if1 .left) in record { is = sym (right-count (a .policy) (a .d) p stopped (a .entry) ready true false h (le-leb _ _ (c .before .before .if2 .left)) (lt-leb _ _ (c .if3 .taken))); fits = tt }
 
 convert-lengths-requires : tie.Need-convert-lengths-requires
 convert-lengths-requires c κs = search needs
 
 returns-4 : tie.Need-returns-4
 unfolding pathAt
-returns-4 c = let a = c .before .before .before .before .before .before .before .before .args in let p = pathAt (a .b .now) (a .path) in let h = ap (λ (n : ℕ). within 2 n 8191) (length-from (a .path .count) (a .b .now) (a .path .points)) ∙ sym (c .before .before .before .before .before .before .within .ensures) ∙ was-true _ (c .before .before .before .before .before .if1 .left) in let r = c .convert-lengths .ensures in record { is = r .is ∙ sym (right-count (a .policy) (a .d) p refuses (a .entry) gives true true h (le-leb _ _ (c .before .before .before .if2 .left)) (le-leb _ _ (c .before .if3 .left))); fits = r .fits }
+returns-4 c = let a = c .before .before .before .before .before .before .before .before .args in let p = pathAt (a .b .now) (a .path) in let h = ap (λ (n : ℕ). within 2 n 8191) (length-from (a .path .count) (a .b .now) (a .path .points)) ∙ sym (c .before .before .before .before .before .before .within .ensures) ∙ was-true _ (c .before .before .before .before .before .if1 .left) in let r = c .convert-lengths .ensures in record { is = r .is ∙ sym (right-count (a .policy) (a .d) p stopped (a .entry) ready true true h (le-leb _ _ (c .before .before .before .if2 .left)) (le-leb _ _ (c .before .if3 .left))); fits = r .fits }
 
 pub convert-front-spec : {M : Type 1} → statement M
 convert-front-spec =

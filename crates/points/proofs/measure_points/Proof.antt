@@ -1,4 +1,4 @@
--- `points::measure_points` meets its contract: the first point, then the rest. Assumes nothing.
+-- `points::measure_points` meets its contract: the ends where all points pass; otherwise the first point, then the rest. Assumes nothing.
 use mathlib.Core.Path.{sym, ap, _∙_, subst}
 use Prim.Native.Nat.{_+_, _-_, _≤_}
 use native.Mathlib.Omega.{arith}
@@ -12,9 +12,22 @@ use Rattle.forms.specs.Place.{pointsFrom}
 use Rattle.points.specs.declared.Walked.the-variants as W
 use Rattle.points.specs.Walk.{through, walked, PointGrown}
 use Rattle.points.proofs.WalkLaws.{point-back, go-on, go-stop, whole-first}
+use Rattle.points.proofs.IntegerLaws.{pass-measured}
 use borrow.Author.Needs.{needs}
 use Rattle.points.proofs.measure_points.Statement.{statement}
 use Rattle.points.proofs.measure_points.Tie as tie
+
+all-pass-requires : tie.Need-all-pass-requires
+all-pass-requires c κs = search needs
+
+integer-ends-requires : tie.Need-integer-ends-requires
+integer-ends-requires c κs = search needs
+
+returns : tie.Need-returns
+returns c =
+    let a = c .before .before .before .before .args in
+    let h = c .before .before .all-pass .ensures (c .before .if1 .taken) in
+    c .integer-ends .ensures ∙ sym (pass-measured (a .policy) (a .d) (a .b .now) (a .n) (a .from) h (a .entry))
 
 convert-point-requires : tie.Need-convert-point-requires
 convert-point-requires c κs = search needs
@@ -30,25 +43,25 @@ add-measure-rest c = search needs
 
 measure-rest-requires : tie.Need-measure-rest-requires
 measure-rest-requires c κs =
-    let a = c .before .before .before .before .before .args in
-    let p = c .before .before .before .before .before .pre in
+    let a = c .before .before .before .before .before .before .before .args in
+    let p = c .before .before .before .before .before .before .before .pre in
     let g = c .before .x .given in
     let k : g .0 .1 .1 .0 .count ≤ a .entry .count + 2 = subst (PointGrown (a .entry .count)) (g .1) (c .before .before .before .convert-point .ensures .grown) in
     (omega arith, (p .1 .0, (p .1 .1 .0, omega arith)))
 
-returns : tie.Need-returns
-returns c =
-    let a = c .before .before .before .before .before .args in
-    let p = c .before .before .before .before .before .pre in
+returns-2 : tie.Need-returns-2
+returns-2 c =
+    let a = c .before .before .before .before .before .before .before .args in
+    let p = c .before .before .before .before .before .before .before .pre in
     let r = c .before .before .before .convert-point in
     let g = c .before .refusal .given in
     sym (whole-first W.Refused (a .policy) (a .d) (a .n) 0 (a .b .now) (a .from) (a .entry) walked ∙ go-stop W.Refused (a .policy) (a .d) (a .n) 0 (a .b .now) (a .from) (a .entry) walked (p .1 .0) (r .result) (r .ensures) (g .0 .0) (g .1))
 
-returns-2 : tie.Need-returns-2
+returns-3 : tie.Need-returns-3
 unfolding walked
-returns-2 c =
-    let a = c .before .before .before .before .before .before .args in
-    let p = c .before .before .before .before .before .before .pre in
+returns-3 c =
+    let a = c .before .before .before .before .before .before .before .before .args in
+    let p = c .before .before .before .before .before .before .before .before .pre in
     let r = c .before .before .before .before .convert-point in
     let g = c .before .before .x .given in
     let x = g .0 .0 in
@@ -64,10 +77,13 @@ pub measure-points-spec : {M : Type 1} → statement M
 measure-points-spec =
     tie.close
     (tie.spec
+    all-pass-requires
+    integer-ends-requires
+    returns
     convert-point-requires
     enum-known-refusal
     enum-known-x
     add-measure-rest
     measure-rest-requires
-    returns
-    returns-2)
+    returns-2
+    returns-3)

@@ -1,4 +1,4 @@
--- `points::put_ends` meets its contract: the first point, then the rest. Assumes nothing.
+-- `points::put_ends` meets its contract: the integers where all points pass; otherwise the first point, then the rest. Assumes nothing.
 use mathlib.Core.Path.{refl, sym, ap, _∙_, subst}
 use mathlib.Core.List.{_∷_}
 use Prim.Native.Nat.{_+_, _-_, _≤_}
@@ -15,9 +15,28 @@ use Rattle.forms.specs.Place.{pointsFrom}
 use Rattle.points.specs.declared.Walked.the-variants as W
 use Rattle.points.specs.Walk.{walked, PointGrown, Put, stopped, putEnds, Leaves}
 use Rattle.points.proofs.WalkLaws.{point-back, go-on, go-stop, whole-first, put-first}
+use Rattle.points.proofs.IntegerLaws.{pass-put}
 use borrow.Author.Needs.{needs}
 use Rattle.points.proofs.put_ends.Statement.{statement}
 use Rattle.points.proofs.put_ends.Tie as tie
+
+all-pass-requires : tie.Need-all-pass-requires
+all-pass-requires c κs = search needs
+
+put-integers-requires : tie.Need-put-integers-requires
+put-integers-requires c κs = search needs
+
+integer-ends-requires : tie.Need-integer-ends-requires
+integer-ends-requires c κs = search needs
+
+same-length : tie.Need-same-length
+same-length c = search needs
+
+returns : tie.Need-returns
+returns c =
+    let a = c .before .before .before .before .before .before .before .before .before .args in
+    let h = c .before .before .before .before .before .before .all-pass .ensures (c .before .before .before .before .before .if1 .taken) in
+    pass-put (a .policy) (a .d) (a .b .now) (a .n) (a .from) h (a .entry) (a .start) (a .out .now) _ _ (c .before .before .before .put-integers .ensures .out) (c .integer-ends .ensures)
 
 convert-point-requires : tie.Need-convert-point-requires
 convert-point-requires c κs = search needs
@@ -36,8 +55,8 @@ add-put-rest c = search needs
 
 put-rest-requires : tie.Need-put-rest-requires
 put-rest-requires c κs =
-    let a = c .before .before .before .before .before .before .before .before .before .before .before .args in
-    let p = c .before .before .before .before .before .before .before .before .before .before .before .pre in
+    let a = c .before .before .before .before .before .before .before .before .before .before .before .before .before .args in
+    let p = c .before .before .before .before .before .before .before .before .before .before .before .before .before .pre in
     let g = c .before .before .before .before .before .before .x .given in
     let k : g .0 .1 .1 .0 .count ≤ a .entry .count + 2 = subst (PointGrown (a .entry .count)) (g .1) (c .before .before .before .before .before .before .before .before .convert-point .ensures .grown) in
     let w = c .before .before .before .put-point .ensures in
@@ -45,23 +64,23 @@ put-rest-requires c κs =
     let l = length-at w in
     (omega arith, (p .1 .0, (p .1 .1 .0, (omega arith, omega arith))))
 
-returns : tie.Need-returns
-returns c =
-    let a = c .before .before .before .before .before .before .args in
-    let p = c .before .before .before .before .before .before .pre in
+returns-2 : tie.Need-returns-2
+returns-2 c =
+    let a = c .before .before .before .before .before .before .before .before .args in
+    let p = c .before .before .before .before .before .before .before .before .pre in
     let r = c .before .before .before .convert-point in
     let g = c .before .refusal .given in
     subst (λ (o : Put). Leaves o (a .out .now) (W.Refused (g .0 .0)))
     (sym (whole-first stopped (a .policy) (a .d) (a .n) 0 (a .b .now) (a .from) (a .entry) (putEnds pointsBytes walked (a .start) (a .out .now)) ∙ go-stop stopped (a .policy) (a .d) (a .n) 0 (a .b .now) (a .from) (a .entry) (putEnds pointsBytes walked (a .start) (a .out .now)) (p .1 .0) (r .result) (r .ensures) (g .0 .0) (g .1)))
     refl
 
-same-length : tie.Need-same-length
-same-length c = search needs
+same-length-2 : tie.Need-same-length-2
+same-length-2 c = search needs
 
-returns-2 : tie.Need-returns-2
-returns-2 c =
-    let a = c .before .before .before .before .before .before .before .before .before .before .before .before .before .before .args in
-    let p = c .before .before .before .before .before .before .before .before .before .before .before .before .before .before .pre in
+returns-3 : tie.Need-returns-3
+returns-3 c =
+    let a = c .before .before .before .before .before .before .before .before .before .before .before .before .before .before .before .before .args in
+    let p = c .before .before .before .before .before .before .before .before .before .before .before .before .before .before .before .before .pre in
     let r = c .before .before .before .before .before .before .before .before .before .before .before .convert-point in
     let g = c .before .before .before .before .before .before .before .before .before .x .given in
     let x = g .0 .0 in
@@ -83,12 +102,17 @@ pub put-ends-spec : {M : Type 1} → statement M
 put-ends-spec =
     tie.close
     (tie.spec
+    all-pass-requires
+    put-integers-requires
+    integer-ends-requires
+    same-length
+    returns
     convert-point-requires
     enum-known-refusal
     enum-known-x
     put-point-requires
     add-put-rest
     put-rest-requires
-    returns
-    same-length
-    returns-2)
+    returns-2
+    same-length-2
+    returns-3)

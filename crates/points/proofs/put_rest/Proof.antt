@@ -1,25 +1,28 @@
 -- `points::put_rest` meets its contract. What is left to convert and write, run from the entry and the place reached, stays what the whole was; the measure is how many points are left. Assumes nothing.
 use mathlib.Core.Path.{_≡_, refl, sym, ap, _∙_, subst}
-use mathlib.Core.List.{List, _∷_}
+use mathlib.Core.Logic.{⊎-elim}
+use mathlib.Core.List.{List}
 use Prim.Native.Nat.{ℕ, _+_, _*_, _-_, _≤_}
 use native.Mathlib.Omega.{arith}
 use borrow.Author.Needs.{needs}
 use lib.ListN.{length}
 use lib.IntN.{ℤ}
 use lib.Ieee.{Float}
-use mir.Val.{SFits, ofZ}
+use mir.Val.{SFits, toZ, ofZ}
 use mir.Syntax.{w32}
 use Rattle.units.specs.Point.{Point}
 use Rattle.big_endian.proofs.BufferLaws.{length-at}
 use Rattle.conversion.specs.declared.Entry.{Entry}
 use Rattle.conversion.specs.declared.GdsRoundingPolicy.{GdsRoundingPolicy}
 use Rattle.conversion.specs.Fold.{run}
-use Rattle.conversion.specs.Points.{writePoints}
+use Rattle.conversion.specs.Points.{writePoint, writePoints}
 use Rattle.conversion.proofs.FoldLaws.{run-same}
 use Rattle.stream.specs.Records.{pointsBytes}
-use Rattle.forms.specs.Place.{pointsFrom}
+use Rattle.forms.specs.Place.{pointAt, pointsFrom}
+use Rattle.points.specs.declared.Pointed.the-variants as P
 use Rattle.points.specs.declared.Walked.the-variants as W
-use Rattle.points.specs.Walk.{through, PointGrown, Put, stopped, putEnds, Leaves}
+use Rattle.points.specs.Walk.{through, Converts, Put, stopped, putEnds, Leaves}
+use Rattle.points.proofs.ValueLaws.{point-recorded, point-plain, point-read}
 use Rattle.points.proofs.WalkLaws.{pointOf, point-back, go-on, go-stop, go-end, put-turn, put-end}
 use Rattle.points.proofs.put_rest.Statement.{statement}
 use Rattle.points.proofs.put_rest.Tie as tie
@@ -46,11 +49,29 @@ abbrev μ-loop : tie.MeasureT-loop
 loop-holds : tie.Need-loop-holds Inv-loop μ-loop
 loop-holds c = record { from1 = search needs; within = search needs; place = search needs; count = search needs; long = refl; small = search needs; rest = refl }
 
-cast-convert-point : tie.Need-cast-convert-point Inv-loop μ-loop
-cast-convert-point c = search needs
+convert-at-requires : tie.Need-convert-at-requires Inv-loop μ-loop
+convert-at-requires c κs = search needs
 
-convert-point-requires : tie.Need-convert-point-requires Inv-loop μ-loop
-convert-point-requires c κs = search needs
+add-convert-at : tie.Need-add-convert-at Inv-loop μ-loop
+add-convert-at c = search needs
+
+convert-at-requires-2 : tie.Need-convert-at-requires-2 Inv-loop μ-loop
+convert-at-requires-2 c κs = search needs
+
+plain-point-requires : tie.Need-plain-point-requires Inv-loop μ-loop
+plain-point-requires c κs = search needs
+
+enum-known-x : tie.Need-enum-known-x Inv-loop μ-loop
+enum-known-x c = search needs
+
+enum-told : tie.Need-enum-told Inv-loop μ-loop
+enum-told c = search needs
+
+cast-record-point : tie.Need-cast-record-point Inv-loop μ-loop
+cast-record-point c = search needs
+
+record-point-requires : tie.Need-record-point-requires Inv-loop μ-loop
+record-point-requires c κs = search needs
 
 enum-known-refusal : tie.Need-enum-known-refusal Inv-loop μ-loop
 enum-known-refusal c = search needs
@@ -59,21 +80,51 @@ same-length : tie.Need-same-length Inv-loop μ-loop
 same-length c = search needs
 
 returns : tie.Need-returns Inv-loop μ-loop
+unfolding pointAt
 returns c =
-    let a = c .before .before .before .before .before .before .before .before .args in
-    let f = c .before .before .before .before .before .before .before .before .fits in
-    let l = c .before .before .before .before .before .loop in
-    let r = c .before .before .before .convert-point in
+    let a = c .before .before .before .before .before .before .before .before .before .before .before .before .before .args in
+    let f = c .before .before .before .before .before .before .before .before .before .before .before .before .before .fits in
+    let l = c .before .before .before .before .before .before .before .before .before .before .loop in
+    let x = c .before .before .before .before .before .before .before .before .convert-at in
+    let y = c .before .before .before .before .before .before .before .convert-at2 in
+    let r = c .before .before .before .record-point in
+    let h = point-recorded (a .policy) (a .d) (pointAt (a .b .now) (l .at)) (x .result) (y .result) (x .ensures) (y .ensures) 0 (l .i) (l .e) (r .result) (r .ensures) in
     let g = c .before .refusal .given in
     subst (λ (o : Put). Leaves o (l .out) (W.Refused (g .0 .0)))
     (sym
     (sym (ap (λ (p : Point ℤ). left (a .policy) (a .d) (a .b .now) (a .n) 1 (a .from) (a .entry) p p (a .start) (a .out .now)) (point-back (a .x0) (a .y0) (f .x0) (f .y0)))
     ∙ l .inv .rest
-    ∙ go-stop stopped (a .policy) (a .d) (a .n) (l .i) (a .b .now) (l .at) (l .e) (putEnds pointsBytes (through (pointOf (ofZ w32 (a .x0)) (ofZ w32 (a .y0))) (pointOf (l .x1) (l .y1))) (l .to) (l .out)) (c .before .before .before .before .loop-test .taken) (r .result) (r .ensures) (g .0 .0) (g .1)))
+    ∙ go-stop stopped (a .policy) (a .d) (a .n) (l .i) (a .b .now) (l .at) (l .e) (putEnds pointsBytes (through (pointOf (ofZ w32 (a .x0)) (ofZ w32 (a .y0))) (pointOf (l .x1) (l .y1))) (l .to) (l .out)) (c .before .before .before .before .before .before .before .before .before .loop-test .taken) (r .result) h (g .0 .0) (g .1)))
     refl
 
-enum-known-x : tie.Need-enum-known-x Inv-loop μ-loop
-enum-known-x c = search needs
+enum-known-x-2 : tie.Need-enum-known-x-2 Inv-loop μ-loop
+enum-known-x-2 c = search needs
+
+-- where the ways through the loop's body meet: the point by its values, with the entry after it
+met : (c : tie.At-match-came Inv-loop μ-loop) → Converts (c .before .before .before .before .before .loop .e) (writePoint (c .before .before .before .before .before .before .before .before .args .policy) (c .before .before .before .before .before .before .before .before .args .d) 0 (c .before .before .before .before .before .loop .i) (pointAt (c .before .before .before .before .before .before .before .before .args .b .now) (c .before .before .before .before .before .loop .at)))
+    (P.At (toZ w32 (c .match .x1)) (toZ w32 (c .match .y1)) (c .match .e))
+unfolding pointAt
+met c =
+    let a = c .before .before .before .before .before .before .before .before .args in
+    let l = c .before .before .before .before .before .loop in
+    let x = c .before .before .before .convert-at in
+    let y = c .before .before .convert-at2 in
+    let p = c .before .plain-point in
+    ⊎-elim
+    (λ w.
+    let g = w .1 .given in
+    let fx : SFits w32 (g .0 .0) = search needs in
+    let fy : SFits w32 (g .0 .1 .0) = search needs in
+    point-read (point-plain (a .policy) (a .d) (pointAt (a .b .now) (l .at)) (x .result) (y .result) (x .ensures) (y .ensures) 0 (l .i) (l .e) (g .0 .0) (g .0 .1 .0) (sym (g .1) ∙ p .ensures))
+    (g .0 .0) (g .0 .1 .0) (l .e) refl fx fy (w .3) (w .4) (w .5))
+    (λ w.
+    let r = w .2 in
+    let g = w .4 .given in
+    let fx : SFits w32 (g .0 .0) = search needs in
+    let fy : SFits w32 (g .0 .1 .0) = search needs in
+    point-read (point-recorded (a .policy) (a .d) (pointAt (a .b .now) (l .at)) (x .result) (y .result) (x .ensures) (y .ensures) 0 (l .i) (l .e) (r .result) (r .ensures))
+    (g .0 .0) (g .0 .1 .0) (g .0 .1 .1 .0) (g .1) fx fy (w .6) (w .7) (w .8))
+    (c .match .came)
 
 put-point-requires : tie.Need-put-point-requires Inv-loop μ-loop
 put-point-requires c κs = search needs
@@ -92,14 +143,9 @@ loop-again c =
     let a = c .before .before .before .before .before .before .before .before .before .before .before .before .args in
     let l = c .before .before .before .before .before .before .before .before .before .loop in
     let v = l .inv in
-    let r = c .before .before .before .before .before .before .before .convert-point in
-    let g = c .before .before .before .before .before .x .given in
-    let x = g .0 .0 in
-    let y = g .0 .1 .0 in
-    let e2 = g .0 .1 .1 .0 in
-    let fx : SFits w32 x = search needs in
-    let fy : SFits w32 y = search needs in
-    let k : e2 .count ≤ l .e .count + 2 = subst (PointGrown (l .e .count)) (g .1) (r .ensures .grown) in
+    let m = c .before .before .before .before .match in
+    let t = met (c .before .before .before .before) in
+    let k : m .e .count ≤ l .e .count + 2 = t .grown in
     let w = c .before .before .put-point .ensures in
     let j = w .count in
     let f = pointOf (ofZ w32 (a .x0)) (ofZ w32 (a .y0)) in
@@ -111,9 +157,9 @@ loop-again c =
       long = length-at w ∙ v .long;
       small = omega arith;
       rest = v .rest
-          ∙ go-on stopped (a .policy) (a .d) (a .n) (l .i) (a .b .now) (l .at) (l .e) (putEnds pointsBytes (through (pointOf (ofZ w32 (a .x0)) (ofZ w32 (a .y0))) (pointOf (l .x1) (l .y1))) (l .to) (l .out)) (c .before .before .before .before .before .before .before .before .loop-test .taken) (r .result) (r .ensures) x y e2 (g .1)
-          ∙ run-same stopped e2 (writePoints (a .policy) (a .d) (l .i + 1) (pointsFrom (a .n - (l .i + 1)) (a .b .now) (l .at + 34))) _ _
-          (λ qs e′. ap (λ (p : Point ℤ). putEnds pointsBytes (through f (pointOf (l .x1) (l .y1))) (l .to) (l .out) (p ∷ qs) e′) (sym (point-back x y fx fy)) ∙ put-turn _ _ w qs e′ f (pointOf (l .x1) (l .y1)));
+          ∙ go-on stopped (a .policy) (a .d) (a .n) (l .i) (a .b .now) (l .at) (l .e) (putEnds pointsBytes (through f (pointOf (l .x1) (l .y1))) (l .to) (l .out)) (c .before .before .before .before .before .before .before .before .loop-test .taken) _ t (toZ w32 (m .x1)) (toZ w32 (m .y1)) (m .e) refl
+          ∙ run-same stopped (m .e) (writePoints (a .policy) (a .d) (l .i + 1) (pointsFrom (a .n - (l .i + 1)) (a .b .now) (l .at + 34))) _ _
+          (λ qs e′. put-turn _ _ w qs e′ f (pointOf (l .x1) (l .y1)));
     }
 
 same-length-2 : tie.Need-same-length-2 Inv-loop μ-loop
@@ -141,12 +187,18 @@ put-rest-spec =
     Inv-loop
     μ-loop
     loop-holds
-    cast-convert-point
-    convert-point-requires
+    convert-at-requires
+    add-convert-at
+    convert-at-requires-2
+    plain-point-requires
+    enum-known-x
+    enum-told
+    cast-record-point
+    record-point-requires
     enum-known-refusal
     same-length
     returns
-    enum-known-x
+    enum-known-x-2
     put-point-requires
     add-at
     add-i

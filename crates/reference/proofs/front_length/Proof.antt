@@ -1,6 +1,6 @@
 -- `reference::front_length` meets its contract. Assumes nothing.
 use native.Mathlib.Omega.{arith}
-use Rattle.reference.proofs.RecordLaws.{strans-short}
+use Rattle.transform.proofs.StransLaws.{strans-short}
 use borrow.Author.Needs.{needs}
 use Rattle.reference.proofs.front_length.Statement.{statement}
 use Rattle.reference.proofs.front_length.Tie as tie

@@ -2,8 +2,8 @@
 use mathlib.Core.Path.{sym, ap, _∙_, subst}
 use Rattle.transform.specs.Strans.{saidOf}
 use Rattle.array.specs.Corners.{stepsOf}
-use Rattle.reference.specs.Reference.{readyOf, Fine, srefOf, arefOf}
-use Rattle.reference.proofs.ValueLaws.{measure-stopped, measure-ready}
+use Rattle.writing.proofs.ReadyLaws.{measure-stopped, measure-ready}
+use Rattle.reference.specs.Reference.{referenceBytes, readyOf, Fine, srefOf, arefOf}
 use Rattle.reference.proofs.RecordLaws.{length-sref, length-aref, length-sum}
 use borrow.Author.Needs.{needs}
 use Rattle.reference.proofs.measure_reference.Statement.{statement}
@@ -42,7 +42,7 @@ returns c =
     let a = c .before .before .before .before .before .args in
     let r = c .before .before .before .reference-values in
     let g = c .before .refusal .given in
-    measure-stopped (a .b .now) (a .reference) (a .entry) _ (r .result) (r .ensures) (g .0 .0) (ap (readyOf (a .b .now) (a .reference)) (g .1))
+    measure-stopped (a .entry) _ (readyOf (a .b .now) (a .reference) (r .result)) (r .ensures .is) referenceBytes (g .0 .0) (ap (readyOf (a .b .now) (a .reference)) (g .1))
 
 returns-2 : tie.Need-returns-2
 unfolding srefOf
@@ -52,7 +52,7 @@ returns-2 c =
     let g = c .before .before .strans .given in
     let t = g .0 .0 in
     let f = subst (Fine (a .b .now) (a .reference)) (g .1) (r .ensures .fine) in
-    measure-ready (a .b .now) (a .reference) (a .entry) _ (r .result) (r .ensures) (srefOf (a .b .now) (a .reference) t (g .0 .1 .0) (g .0 .1 .1 .0)) (g .0 .1 .1 .1 .0) _ (ap (readyOf (a .b .now) (a .reference)) (g .1))
+    measure-ready (a .entry) _ (readyOf (a .b .now) (a .reference) (r .result)) (r .ensures .is) referenceBytes (srefOf (a .b .now) (a .reference) t (g .0 .1 .0) (g .0 .1 .1 .0)) (g .0 .1 .1 .1 .0) _ (ap (readyOf (a .b .now) (a .reference)) (g .1))
     (length-sum _ _ _ _ (c .front-length .ensures .0) ∙ sym (length-sref (a .b .now) (a .reference) (saidOf t) _ (c .before .before .before .before .before .before .pre .0 .name-in) (f .bytes) (record { x = g .0 .1 .0; y = g .0 .1 .1 .0 })))
 
 returns-3 : tie.Need-returns-3
@@ -64,7 +64,7 @@ returns-3 c =
     let k = g .0 .1 .0 in
     let t = g .0 .0 in
     let f = subst (Fine (a .b .now) (a .reference)) (g .1) (r .ensures .fine) in
-    measure-ready (a .b .now) (a .reference) (a .entry) _ (r .result) (r .ensures) (arefOf (a .b .now) (a .reference) t (g .0 .1 .0)) (g .0 .1 .1 .0) _ (ap (readyOf (a .b .now) (a .reference)) (g .1))
+    measure-ready (a .entry) _ (readyOf (a .b .now) (a .reference) (r .result)) (r .ensures .is) referenceBytes (arefOf (a .b .now) (a .reference) t (g .0 .1 .0)) (g .0 .1 .1 .0) _ (ap (readyOf (a .b .now) (a .reference)) (g .1))
     (length-sum _ _ _ _ (c .front-length2 .ensures .0) ∙ sym (length-aref (a .b .now) (a .reference) (saidOf t) _ (c .before .before .before .before .before .before .pre .0 .name-in) (f .0 .bytes) (a .reference .columns) (a .reference .rows) (stepsOf k .origin) (stepsOf k .columnStep) (stepsOf k .rowStep)))
 
 pub measure-reference-spec : {M : Type 1} → statement M

@@ -5,8 +5,8 @@ use lib.ListN.{length}
 use mir.Syntax.{w32}
 use mir.Val.{SFits}
 use mir.ValLaws.{toZ-ofZ}
-use Rattle.reference.specs.Reference.{readyOf, Fine, srefOf, arefOf}
-use Rattle.reference.proofs.ValueLaws.{write-stopped, write-ready}
+use Rattle.writing.proofs.ReadyLaws.{write-stopped, write-ready}
+use Rattle.reference.specs.Reference.{referenceBytes, readyOf, Fine, srefOf, arefOf}
 use Rattle.reference.proofs.RecordLaws.{same-sref}
 use borrow.Author.Needs.{needs}
 use Rattle.reference.proofs.put_reference.Statement.{statement}
@@ -51,7 +51,7 @@ returns c =
     let a = c .before .before .before .before .before .before .args in
     let r = c .before .before .before .reference-values in
     let g = c .before .refusal .given in
-    write-stopped (a .b .now) (a .reference) (a .entry) _ (r .result) (r .ensures) (a .start) (a .out .now) _ (g .0 .0) (ap (readyOf (a .b .now) (a .reference)) (g .1))
+    write-stopped (a .entry) _ (readyOf (a .b .now) (a .reference) (r .result)) (r .ensures .is) referenceBytes (a .start) (a .out .now) _ (g .0 .0) (ap (readyOf (a .b .now) (a .reference)) (g .1))
 
 same-length : tie.Need-same-length
 same-length c =
@@ -65,8 +65,8 @@ returns-2 c =
     let k = c .before .before .before .before .known-told2 .given in
     let f : SFits w32 (g .0 .1 .0) = search needs in
     let f2 : SFits w32 (g .0 .1 .1 .0) = search needs in
-    write-ready (a .b .now) (a .reference) (a .entry) _ (r .result) (r .ensures) (a .start) (a .out .now) _ (srefOf (a .b .now) (a .reference) (g .0 .0) (g .0 .1 .0) (g .0 .1 .1 .0)) (g .0 .1 .1 .1 .0) _ _ (ap (readyOf (a .b .now) (a .reference)) (g .1))
-    (same-sref (a .b .now) (a .reference) (g .0 .0) (toZ-ofZ w32 (g .0 .1 .0) f) (toZ-ofZ w32 (g .0 .1 .1 .0) f2) (c .before .before .put-sref-at .ensures))
+    write-ready (a .entry) _ (readyOf (a .b .now) (a .reference) (r .result)) (r .ensures .is) referenceBytes (a .start) (a .out .now) _ (srefOf (a .b .now) (a .reference) (g .0 .0) (g .0 .1 .0) (g .0 .1 .1 .0)) (g .0 .1 .1 .1 .0) _ (ap (readyOf (a .b .now) (a .reference)) (g .1))
+    (same-sref (a .b .now) (a .reference) (g .0 .0) (toZ-ofZ w32 (g .0 .1 .0) f) (toZ-ofZ w32 (g .0 .1 .1 .0) f2) (c .before .before .put-sref-at .ensures) .wrote)
 
 same-length-2 : tie.Need-same-length-2
 same-length-2 c =
@@ -77,7 +77,7 @@ returns-3 c =
     let a = c .before .before .before .before .before .before .before .before .before .before .args in
     let r = c .before .before .before .before .before .before .before .reference-values in
     let g = c .before .before .before .before .before .strans2 .given in
-    write-ready (a .b .now) (a .reference) (a .entry) _ (r .result) (r .ensures) (a .start) (a .out .now) _ (arefOf (a .b .now) (a .reference) (g .0 .0) (g .0 .1 .0)) (g .0 .1 .1 .0) _ _ (ap (readyOf (a .b .now) (a .reference)) (g .1)) (c .before .before .put-aref-at .ensures)
+    write-ready (a .entry) _ (readyOf (a .b .now) (a .reference) (r .result)) (r .ensures .is) referenceBytes (a .start) (a .out .now) _ (arefOf (a .b .now) (a .reference) (g .0 .0) (g .0 .1 .0)) (g .0 .1 .1 .0) _ (ap (readyOf (a .b .now) (a .reference)) (g .1)) (c .before .before .put-aref-at .ensures .wrote)
 
 pub put-reference-spec : {M : Type 1} → statement M
 put-reference-spec =

@@ -1,11 +1,10 @@
 -- `reference::put_sref_at` meets its contract, record by record. Assumes nothing.
-use mathlib.Core.Path.{ap, _∙_}
+use mathlib.Core.Path.{_∙_}
 use native.Mathlib.Omega.{arith}
-use lib.ListN.{length}
 use mir.Syntax.{w32}
 use mir.ValLaws.{toZ-ofZ}
-use Rattle.reference.proofs.CheckLaws.{length-string}
-use Rattle.reference.proofs.RecordLaws.{sref-placed}
+use Rattle.reference.proofs.RecordLaws.{name-long, name-room, strans-room, rest-room, sref-placed}
+use Rattle.reference.specs.Reference.{singleRest}
 use borrow.Author.Needs.{needs}
 use Rattle.reference.proofs.put_sref_at.Statement.{statement}
 use Rattle.reference.proofs.put_sref_at.Tie as tie
@@ -21,48 +20,20 @@ put-string-at-requires c κs =
     let a = c .before .before .before .before .before .before .before .before .args in
     let p = c .before .before .before .before .before .before .before .before .pre in
     let q = p .1 .0 .name in
-    let i = p .0 in
-    let e = ap length (c .string-at .ensures) ∙ length-string (a .b .now) (a .s .name) i in
-    let w = c .before .before .before .before .put-empty-at .ensures in
-    let we = w .end in
-    let wl = w .long in
-    let r = p .1 .1 in
-    (omega arith, omega arith)
+    let l = name-long (a .b .now) (a .s) (a .strans) (p .0) _ (c .string-at .ensures) in
+    (omega arith, name-room (a .b .now) (a .s) (a .strans) (p .0) _ (c .string-at .ensures) singleRest (p .1 .1) (c .before .before .before .before .put-empty-at .ensures))
 
 put-strans-at-requires : tie.Need-put-strans-at-requires
 put-strans-at-requires c κs =
     let a = c .before .before .before .before .before .before .before .before .before .before .before .before .args in
     let p = c .before .before .before .before .before .before .before .before .before .before .before .before .pre in
-    let q = p .1 .0 .name in
-    let i = p .0 in
-    let e = ap length (c .before .before .before .before .string-at .ensures) ∙ length-string (a .b .now) (a .s .name) i in
-    let w = c .before .before .before .before .before .before .before .before .put-empty-at .ensures in
-    let we = w .end in
-    let wl = w .long in
-    let r = p .1 .1 in
-    let v = c .before .before .before .put-string-at .ensures in
-    let ve = v .end in
-    let vl = v .long in
-    omega arith
+    strans-room (a .b .now) (a .s) (a .strans) (p .0) _ (c .before .before .before .before .string-at .ensures) singleRest (p .1 .1) (c .before .before .before .before .before .before .before .before .put-empty-at .ensures) (c .before .before .before .put-string-at .ensures)
 
 put-origin-at-requires : tie.Need-put-origin-at-requires
 put-origin-at-requires c κs =
     let a = c .before .before .before .before .before .before .before .before .before .before .before .before .before .before .before .before .args in
     let p = c .before .before .before .before .before .before .before .before .before .before .before .before .before .before .before .before .pre in
-    let q = p .1 .0 .name in
-    let i = p .0 in
-    let e = ap length (c .before .before .before .before .before .before .before .before .string-at .ensures) ∙ length-string (a .b .now) (a .s .name) i in
-    let w = c .before .before .before .before .before .before .before .before .before .before .before .before .put-empty-at .ensures in
-    let we = w .end in
-    let wl = w .long in
-    let r = p .1 .1 in
-    let v = c .before .before .before .before .before .before .before .put-string-at .ensures in
-    let ve = v .end in
-    let vl = v .long in
-    let u = c .before .before .before .put-strans-at .ensures in
-    let ue = u .end in
-    let ul = u .long in
-    omega arith
+    rest-room (a .b .now) (a .s) (a .strans) (p .0) _ (c .before .before .before .before .before .before .before .before .string-at .ensures) singleRest (p .1 .1) (c .before .before .before .before .before .before .before .before .before .before .before .before .put-empty-at .ensures) (c .before .before .before .before .before .before .before .put-string-at .ensures) (c .before .before .before .put-strans-at .ensures)
 
 same-length : tie.Need-same-length
 same-length c =

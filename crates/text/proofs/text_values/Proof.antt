@@ -12,7 +12,8 @@ use mir.ValLaws.{toZ-ofZ}
 use Rattle.cell.specs.Limits.{maxLayer, maxStringLength}
 use Rattle.forms.specs.Forms.{textAt}
 use Rattle.transform.specs.Strans.{saidOf, transformOf}
-use Rattle.text.specs.Text.{SaidText, textOf, stopped, ready}
+use Rattle.writing.specs.Ready.{stopped, ready}
+use Rattle.text.specs.Text.{SaidText, textOf}
 use Rattle.text.proofs.TextLaws.{said-of, text-layer, text-string, text-transform, text-origin, text-through, string-long}
 use borrow.Author.Needs.{needs}
 use Rattle.text.proofs.text_values.Statement.{statement}

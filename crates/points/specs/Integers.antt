@@ -1,0 +1,33 @@
+-- Points whose coordinates are integers in the database unit: "An integer whose unit equals d passes unchanged" (document 01, "Result two"). Assumes nothing.
+use mathlib.Core.Path.{_≡_}
+use mathlib.Core.Option.{some}
+use mathlib.Core.List.{List}
+use Prim.Native.Nat.{ℕ, zero, suc, _+_}
+use lib.IntN.{ℤ}
+use lib.Ieee.{Float}
+use mir.Val.{toZ}
+use mir.Syntax.{w32}
+use Rattle.big_endian.specs.Big.{numberAt}
+use Rattle.units.specs.Point.{Point}
+use Rattle.units.specs.Physical.{passed}
+use Rattle.forms.specs.Place.{valuesFrom, unitAt, pointEnd}
+
+-- the lower four value bytes of a coordinate
+abbrev pub integerAt : List ℕ → ℕ → ℤ
+integerAt b at = toZ w32 (numberAt 4 b (at + 5))
+
+abbrev pub integersAt : List ℕ → ℕ → Point ℤ
+integersAt b at = record { x = integerAt b at; y = integerAt b (at + 17) }
+
+-- of n points in a row
+abbrev pub integersFrom : ℕ → List ℕ → ℕ → List (Point ℤ)
+integersFrom = valuesFrom integersAt pointEnd
+
+-- the coordinate at a place passes
+abbrev pub Passes : Float → List ℕ → ℕ → Type 0
+Passes d b at = passed d (unitAt b at) ≡ some (integerAt b at)
+
+-- both coordinates of each of n points pass
+abbrev pub AllPass : Float → List ℕ → ℕ → ℕ → Type 0
+AllPass d b zero at = Unit {0}
+AllPass d b (suc n) at = Passes d b at × Passes d b (at + 17) × AllPass d b n (at + 34)
