@@ -97,10 +97,13 @@ fn measure_parts(
             Measured::Through {
                 length: more,
                 entry: e2,
-            } => Measured::Through {
-                length: length + more,
-                entry: e2,
-            },
+            } => {
+                let size = length + more;
+                Measured::Through {
+                    length: size,
+                    entry: e2,
+                }
+            }
         },
     }
 }

@@ -35,7 +35,7 @@ const POINT: usize = 34;
 
 const XY_POINT: usize = 8;
 
-// In a coordinate: the kind byte of an integer, and the places of the value and the unit.
+// In a coordinate: the kind byte of an integer, and the places of the value, of the unit, and of an integer's value, which is the lower four of the value bytes.
 const INTEGER: u8 = 0;
 
 const VALUE: usize = 1;

@@ -24,8 +24,8 @@ enum-known-refusal2 c = search needs
 enum-known-more : tie.Need-enum-known-more
 enum-known-more c = search needs
 
-add-t17 : tie.Need-add-t17
-add-t17 c =
+add-size : tie.Need-add-size
+add-size c =
     let c3 = c .before .before .before in
     let c7 = c3 .before .before .before .before in
     let s = c7 .before .before in
@@ -81,7 +81,7 @@ measure-parts-spec =
     measure-tail-requires
     enum-known-refusal2
     enum-known-more
-    add-t17
+    add-size
     returns
     returns-2
     returns-3)
