@@ -7,10 +7,12 @@ lines that it prints, joined by `|`. From these the script takes small cells tha
 every element kind, policy, record, report field and refusal number, and an array turned by an
 angle (crates/cases/specs/Cells.antt). The stored cases that end in 21 and 22 are large, so cells
 with shorter buffers stand in for them, with the answer that follows from the stored one. Two cells of
-document 01's rows, and the streams for the grammar (crates/cases/specs/Streams.antt), are written
-here by hand.
+document 01's rows are written here by hand. So are the streams (crates/cases/specs/Streams.antt), but
+for some of the stored cells; what is read from them is the answer of tools/reading_model.py.
 crates/cases/proofs/Open.antt opens every definition of the specs below `cases`."""
 import glob, os, re, struct, sys
+
+import reading_model
 
 OUT, REPORT = 16384, 8192          # the program's buffers
 LARGEST = 700                      # bytes of input, so that the check stays quick
@@ -178,58 +180,75 @@ def real(c, v): return rec(c, 5, bytes.fromhex(v))
 def empty(c): return rec(c, 0)
 
 
-HEAD = word(5, *([0] * 12)) + string(6, b"AB")
+STAMPS, NAME = word(5, *([0] * 12)), string(6, b"AB")
+HEAD = STAMPS + NAME
 END = empty(7)
 ENDEL = empty(0x11)
-ONE = "4110000000000000"
+ONE, TWO, TOO_FINE = "4110000000000000", "4120000000000000", "41ffffffffffffff"
 ODD = struct.pack(">HBB", 5, 0x19, 6) + b"x"
-DRAWS, NO_RECORD, NOT_OF_GRAMMAR, NO_INSTANCE, NOT_WHOLE = "none", "some noRecord", "some notOfGrammar", "some noInstance", "some notWhole"
+SQUARE = (0, 0, 4, 0, 4, 4, 0, 0)
+OPEN = (0, 0, 4, 0, 4, 4, 0, 1)
+DRAWS, NO_RECORD, NOT_OF_GRAMMAR, NO_INSTANCE, NOT_WHOLE = None, reading_model.NO_RECORD, reading_model.NOT_OF_GRAMMAR, 11, 30
 
 
-def cell(*elements): return HEAD + b"".join(elements) + END
+def cell(*elements, head=HEAD, end=END): return head + b"".join(elements) + end
 
 
-def text(presentation=bits(0x17, 5), transform=b"", xy=long(0x10, 1, 2), s=string(0x19, b"hi")):
-    return empty(0x0c) + word(0x0d, 1) + word(0x16, 2) + presentation + transform + xy + s + ENDEL
+def text(presentation=bits(0x17, 5), transform=b"", xy=long(0x10, 1, 2), s=string(0x19, b"hi"), layer=1, type=2, tail=ENDEL):
+    return empty(0x0c) + word(0x0d, layer) + word(0x16, type) + presentation + transform + xy + s + tail
 
 
-def sref(xy=long(0x10, 1, 2)): return empty(0x0a) + string(0x12, b"B\0") + xy + ENDEL
+def sref(xy=long(0x10, 1, 2), name=b"B\0", transform=b""): return empty(0x0a) + string(0x12, name) + transform + xy + ENDEL
 
 
-def aref(counts=(2, 3), points=(0, 0, 4, 0, 0, 9)):
-    return empty(0x0b) + string(0x12, b"B\0") + word(0x13, *counts) + long(0x10, *points) + ENDEL
+def aref(counts=(2, 3), points=(0, 0, 4, 0, 0, 9), name=b"B\0", transform=b""):
+    return empty(0x0b) + string(0x12, name) + transform + word(0x13, *counts) + long(0x10, *points) + ENDEL
 
 
-def shape(code, typecode, *rest): return empty(code) + word(0x0d, 1) + word(typecode, 2) + b"".join(rest) + ENDEL
+def shape(code, typecode, *rest, layer=1, type=2, tail=ENDEL):
+    return empty(code) + word(0x0d, layer) + word(typecode, type) + b"".join(rest) + tail
 
 
-def streams():
-    strans = bits(0x1a, 0x8000)
+def boundary(points=SQUARE, **more): return shape(8, 0x0e, long(0x10, *points), **more)
+def path(*options, points=(0, 0, 5, 5), **more): return shape(9, 0x0e, *options, long(0x10, *points), **more)
+def node(points=(1, 2), **more): return shape(0x15, 0x2a, long(0x10, *points), **more)
+def strans(*reals, bits_of=0): return bits(0x1a, bits_of) + b"".join(reals)
+def mag(v): return real(0x1b, v)
+def angle(v): return real(0x1c, v)
+def magnified(v): return cell(text(transform=strans(mag(v))))
+def turned_by(v): return cell(text(transform=strans(angle(v))))
+def owned(*properties): return boundary(tail=b"".join(properties) + ENDEL)
+def owns(attribute, value): return word(0x2b, attribute) + string(0x2c, value)
+
+
+def grammar_streams():
+    """Streams with the fault that the grammar alone finds in them, first in byte order; by hand."""
+    reflected = bits(0x1a, 0x8000)
     return [
         ("an empty structure", cell(), DRAWS),
         ("a byte after ENDSTR", cell() + b"\0", NOT_OF_GRAMMAR),
         ("two structures", cell() + cell(), NOT_OF_GRAMMAR),
         ("no ENDSTR", HEAD, NO_RECORD),
         ("nothing", b"", NO_RECORD),
-        ("no STRNAME", word(5, *([0] * 12)) + END, NOT_OF_GRAMMAR),
+        ("no STRNAME", STAMPS + END, NOT_OF_GRAMMAR),
         ("a text", cell(text()), DRAWS),
         ("no PRESENTATION", cell(text(presentation=b"")), DRAWS),
-        ("STRANS, MAG, ANGLE", cell(text(transform=strans + real(0x1b, ONE) + real(0x1c, ONE))), DRAWS),
-        ("STRANS and ANGLE", cell(text(transform=bits(0x1a, 0) + real(0x1c, ONE))), DRAWS),
-        ("ANGLE before MAG", cell(text(transform=bits(0x1a, 0) + real(0x1c, ONE) + real(0x1b, ONE))), NOT_OF_GRAMMAR),
-        ("MAG with no STRANS", cell(text(transform=real(0x1b, ONE))), NOT_OF_GRAMMAR),
+        ("STRANS, MAG, ANGLE", cell(text(transform=reflected + mag(ONE) + angle(ONE))), DRAWS),
+        ("STRANS and ANGLE", cell(text(transform=strans(angle(ONE)))), DRAWS),
+        ("ANGLE before MAG", cell(text(transform=strans(angle(ONE), mag(ONE)))), NOT_OF_GRAMMAR),
+        ("MAG with no STRANS", cell(text(transform=mag(ONE))), NOT_OF_GRAMMAR),
         ("another STRANS bit", cell(text(transform=bits(0x1a, 4))), NOT_OF_GRAMMAR),
         ("a text of two points", cell(text(xy=long(0x10, 1, 2, 3, 4))), NOT_OF_GRAMMAR),
         ("an XY of half a point", cell(text(xy=long(0x10, 1))), NO_RECORD),
-        ("an XY of no point", cell(shape(8, 0x0e, long(0x10))), DRAWS),
+        ("an XY of no point", cell(boundary(())), DRAWS),
         ("STRING before XY", cell(text(xy=string(0x19, b"hi"), s=long(0x10, 1, 2))), NOT_OF_GRAMMAR),
         ("a string of no bytes", cell(text(s=string(0x19, b""))), DRAWS),
         ("an odd length", HEAD + ODD + END, NO_RECORD),
         ("a length below 4", HEAD + struct.pack(">HBB", 2, 7, 0), NO_RECORD),
         ("a length past the end", HEAD + struct.pack(">HBB", 6, 7, 0), NO_RECORD),
         ("half a head", HEAD + b"\0\4\7", NO_RECORD),
-        ("another data type", rec(5, 3, bytes(24)) + string(6, b"AB") + END, NO_RECORD),
-        ("another data size", word(5, *([0] * 11)) + string(6, b"AB") + END, NO_RECORD),
+        ("another data type", rec(5, 3, bytes(24)) + NAME + END, NO_RECORD),
+        ("another data size", word(5, *([0] * 11)) + NAME + END, NO_RECORD),
         ("an SREF", cell(sref()), DRAWS),
         ("an SREF of no point", cell(sref(xy=long(0x10))), NOT_OF_GRAMMAR),
         ("an array", cell(aref()), DRAWS),
@@ -240,13 +259,13 @@ def streams():
         ("a row step that is not whole", cell(aref(points=(0, 0, 4, 0, 0, -8))), NOT_WHOLE),
         ("a negative step", cell(aref(points=(1, 0, -3, 0, 1, -9))), DRAWS),
         ("an array of two points", cell(aref(points=(0, 0, 4, 0))), NOT_OF_GRAMMAR),
-        ("a boundary with a property", cell(shape(8, 0x0e, long(0x10, 0, 0, 1, 0, 1, 1, 0, 0), word(0x2b, 9), string(0x2c, b"v\0"))), DRAWS),
-        ("PROPATTR alone", cell(shape(8, 0x0e, long(0x10, 0, 0), word(0x2b, 9))), NOT_OF_GRAMMAR),
-        ("PROPVALUE alone", cell(shape(8, 0x0e, long(0x10, 0, 0), string(0x2c, b"v\0"))), NOT_OF_GRAMMAR),
-        ("a path with BGNEXTN alone", cell(shape(9, 0x0e, long(0x30, 7), long(0x10, 0, 0, 1, 1))), DRAWS),
-        ("ENDEXTN before BGNEXTN", cell(shape(9, 0x0e, long(0x31, 7), long(0x30, 7), long(0x10, 0, 0, 1, 1))), NOT_OF_GRAMMAR),
+        ("a boundary with a property", cell(owned(owns(9, b"v\0"))), DRAWS),
+        ("PROPATTR alone", cell(owned(word(0x2b, 9))), NOT_OF_GRAMMAR),
+        ("PROPVALUE alone", cell(owned(string(0x2c, b"v\0"))), NOT_OF_GRAMMAR),
+        ("a path with BGNEXTN alone", cell(path(long(0x30, 7))), DRAWS),
+        ("ENDEXTN before BGNEXTN", cell(path(long(0x31, 7), long(0x30, 7))), NOT_OF_GRAMMAR),
         ("WIDTH in a boundary", cell(shape(8, 0x0e, long(0x0f, 7), long(0x10, 0, 0))), NOT_OF_GRAMMAR),
-        ("a node", cell(shape(0x15, 0x2a, long(0x10, 0, 0))), DRAWS),
+        ("a node", cell(node()), DRAWS),
         ("a node with DATATYPE", cell(shape(0x15, 0x0e, long(0x10, 0, 0))), NOT_OF_GRAMMAR),
         ("a BOX", cell(shape(0x2d, 0x2e, long(0x10, 0, 0))), NO_RECORD),
         # two faults: the first in byte order counts
@@ -259,28 +278,196 @@ def streams():
     ]
 
 
-def streams_module():
-    rows = streams()
-    return len(rows), '''-- Streams that document 01's grammar takes, and streams that it does not with the fault that is first in byte order ("What a structure draws"): made by tools/computed_cases.py. Assumes nothing.
+def sheet_streams():
+    """Streams for reading to a sheet, one below, at and above each limit that a short stream can reach."""
+    dates = (2024, 2, 29, 23, 59, 59, 1, 1, 1, 0, 0, 0)
+    last = 2**31 - 1
+    return [
+        # the head
+        ("two dates", cell(head=word(5, *dates) + NAME)),
+        ("a stamp that is no date", cell(head=word(5, 2023, *dates[1:]) + NAME)),
+        ("second 60", cell(head=word(5, *dates[:11], 60) + NAME)),
+        ("one stamp of zeros", cell(head=word(5, *dates[:6], *[0] * 6) + NAME)),
+        ("an odd name", cell(head=STAMPS + string(6, b"ABC\0"))),
+        ("an empty name", cell(head=STAMPS + string(6, b""))),
+        ("a name of one zero byte and one that is dropped", cell(head=STAMPS + string(6, b"\0\0"))),
+        ("a name with a zero byte left", cell(head=STAMPS + string(6, b"A\0\0\0"))),
+        ("a name of 32 bytes", cell(head=STAMPS + string(6, b"A" * 32))),
+        ("a name of 33 bytes", cell(head=STAMPS + string(6, b"A" * 33 + b"\0"))),
+        ("a name of 34 bytes", cell(head=STAMPS + string(6, b"A" * 34))),
+        ("a boundary for STRNAME", STAMPS + boundary() + END),
+        # shapes
+        ("boundary of four points", cell(boundary())),
+        ("boundary of three points", cell(boundary((0, 0, 4, 0, 0, 0)))),
+        ("open boundary", cell(boundary(OPEN))),
+        ("the ends of 32 bits", cell(boundary((last, -last - 1, 0, 0, 0, 1, last, -last - 1)))),
+        ("layer and type 255", cell(boundary(layer=255, type=255))),
+        ("layer 256", cell(boundary(layer=256))),
+        ("type 256", cell(boundary(type=256))),
+        ("node of no points", cell(node(()))),
+        ("node of 50 points", cell(node((1,) * 100))),
+        ("node of 51 points", cell(node((1,) * 102))),
+        ("node layer 256", cell(node(layer=256))),
+        ("node type 255", cell(node(type=255))),
+        ("node type 256", cell(node(type=256))),
+        # paths
+        ("path of two points", cell(path())),
+        ("path of one point", cell(path(points=(0, 0)))),
+        ("path with all", cell(path(word(0x21, 2), long(0x0f, -5), long(0x30, 1), long(0x31, -last - 1)))),
+        ("path types 0 and 1", cell(path(word(0x21, 0)), path(word(0x21, 1)))),
+        ("path type 3", cell(path(word(0x21, 3)))),
+        ("path type 4 with an extension", cell(path(word(0x21, 4), long(0x30, 1)))),
+        ("path type 255", cell(path(word(0x21, 255)))),
+        ("path layer 256", cell(path(layer=256))),
+        ("path type byte 256", cell(path(type=256))),
+        ("WIDTH before PATHTYPE", cell(path(long(0x0f, 1), word(0x21, 1)))),
+        # texts
+        ("text type 65,535", cell(text(type=65535))),
+        ("text layer 256", cell(text(layer=256))),
+        ("every presentation of ours", cell(*[text(presentation=bits(0x17, n)) for n in (0, 1, 2, 4, 6, 8, 9, 10)])),
+        *[(f"presentation {n}", cell(text(presentation=bits(0x17, n)))) for n in (3, 7, 11, 12, 0x10, 0x8000)],
+        ("PATHTYPE in a text", cell(text(presentation=word(0x21, 0)))),
+        ("WIDTH in a text", cell(text(presentation=long(0x0f, 1)))),
+        ("text of no points", cell(text(xy=long(0x10)))),
+        ("text of 512 bytes", cell(text(s=string(0x19, b"x" * 512)))),
+        ("text of 513 bytes", cell(text(s=string(0x19, b"x" * 513 + b"\0")))),
+        ("text of 514 bytes", cell(text(s=string(0x19, b"x" * 514)))),
+        ("a text of two zero bytes", cell(text(s=string(0x19, b"\0\0")))),
+        ("a text that ends in three zero bytes", cell(text(s=string(0x19, b"A\0\0\0")))),
+        # transforms
+        ("STRANS alone", cell(text(transform=strans()))),
+        ("reflection alone", cell(text(transform=strans(bits_of=0x8000)))),
+        ("MAG 2 and ANGLE 1, reflected", cell(text(transform=strans(mag(TWO), angle(ONE), bits_of=0x8000)))),
+        ("MAG 1", magnified(ONE)),
+        ("MAG 1 with leading zero digits", magnified("4201000000000000")),
+        ("MAG 0", magnified("0000000000000000")),
+        ("MAG minus 0", magnified("c100000000000000")),
+        ("MAG -2", magnified("c120000000000000")),
+        ("MAG of 53 digits", magnified("41fffffffffffff8")),
+        ("MAG of 54 digits", magnified(TOO_FINE)),
+        ("MAG of 54 digits, the last of them 0", magnified("413ffffffffffffe")),
+        ("MAG of 54 digits, the last of them 1", magnified("413fffffffffffff")),
+        ("MAG 2^-260", magnified("0010000000000000")),
+        ("MAG 2^-261", magnified("0008000000000000")),
+        ("MAG 2^-312", magnified("0000000000000001")),
+        ("ANGLE 2^-261", turned_by("0008000000000000")),
+        ("ANGLE -2^-261", turned_by("8008000000000000")),
+        ("ANGLE -2^-260", turned_by("8010000000000000")),
+        ("ANGLE minus 0", turned_by("8000000000000000")),
+        ("ANGLE 0 with an exponent", turned_by("4500000000000000")),
+        ("the greatest ANGLE of a double", turned_by("7ffffffffffffff8")),
+        ("the greatest ANGLE", turned_by("7fffffffffffffff")),
+        # references
+        ("SREF of two points", cell(sref(xy=long(0x10, 1, 2, 3, 4)))),
+        ("SREF of a bad name", cell(sref(name=b"B-"))),
+        ("SREF with a transform", cell(sref(transform=strans(mag("3e4189374bc6a7f0"), angle("425a000000000000"), bits_of=0x8000)))),
+        ("AREF of a bad name", cell(aref(name=b"B-"))),
+        ("AREF 1 x 3", cell(aref((1, 3)))),
+        ("AREF 3 x 1", cell(aref((3, 1), (0, 0, 9, 0, 0, 4)))),
+        ("AREF 32,767 columns", cell(aref((32767, 1), (0, 0, 32767 * 3, 0, 0, 0)))),
+        ("AREF 32,768 columns", cell(aref((32768, 1), (0, 0, 32768, 0, 0, 0)))),
+        ("AREF 32,767 rows", cell(aref((1, 32767), (0, 0, 0, 0, 0, 32767)))),
+        ("AREF 32,768 rows", cell(aref((1, 32768), (0, 0, 0, 0, 0, 32768)))),
+        ("AREF of four points", cell(aref(points=(0, 0, 4, 0, 0, 9, 0, 0)))),
+        ("AREF step of 2^31 - 1 in one column", cell(aref((1, 2), (0, 0, last, 0, 0, 0)))),
+        ("AREF step of 2^31 in one column", cell(aref((1, 2), (-1, 0, last, 0, -1, 0)))),
+        ("AREF step of -2^31 in one column", cell(aref((1, 2), (0, 0, -last - 1, 0, 0, 0)))),
+        ("AREF step of -2^31 - 1 in one row", cell(aref((2, 1), (0, 1, 0, 1, 0, -last - 1)))),
+        ("1 x 1 AREF with a step of 2^32 - 1", cell(aref((1, 1), (-last - 1, 0, last, 0, 0, 0)))),
+        ("AREF from end to end", cell(aref((2, 3), (-last - 1, -last - 1, last - 1, -last - 1, -last - 1, last - 2)))),
+        ("COLROW before SNAME", cell(empty(0x0b) + word(0x13, 1, 1) + string(0x12, b"B\0") + long(0x10, *[0] * 6) + ENDEL)),
+        # properties
+        ("properties", cell(owned(owns(1, b"x\0"), owns(65535, b""), owns(0, b"ab")))),
+        ("a value of four zero bytes", cell(owned(owns(1, b"\0" * 4)))),
+        # where a fault stands
+        ("STRCLASS", HEAD + bits(0x34, 0) + END),
+        ("the second element", cell(boundary(), boundary(type=256))),
+        ("a bad record between elements", cell(boundary(), ODD)),
+        ("a bad record in an element", cell(boundary(), empty(8) + word(0x0d, 1) + ODD)),
+        ("an ill-formed first record", cell(boundary(), rec(8, 2))),
+        ("a record of no element", cell(boundary(), word(0x0d, 1))),
+        ("an ill-formed ENDEL", cell(boundary(), boundary(tail=rec(0x11, 0, b"\0\0")))),
+        ("a missing ENDEL", cell(boundary(tail=b""))),
+        ("the bytes end in an element", HEAD + boundary()[:-4]),
+        ("the next element for ENDEL", cell(boundary(tail=b""), boundary())),
+        # two faults: the first in byte order counts, and within a record 28, then 29, then as in writing
+        ("6, then 7", cell(head=word(5, *[1] * 11, 60) + string(6, b"A B\0"))),
+        ("7, then 9", cell(boundary(layer=256), head=STAMPS + string(6, b"A-"))),
+        ("9, then 8", cell(boundary((0, 0, 4, 0, 0, 0), layer=256))),
+        ("9 of the type, then 20", cell(boundary(OPEN, type=256))),
+        ("8 and 20", cell(boundary((0, 0, 4, 0, 0, 1)))),
+        ("20, then no ENDEL", cell(boundary(OPEN, tail=b""))),
+        ("9, then path type 3", cell(path(word(0x21, 3), layer=256))),
+        ("path type 3, then 8", cell(path(word(0x21, 3), points=(0, 0)))),
+        ("9, then 10", cell(text(layer=256, s=string(0x19, b"x" * 514)))),
+        ("presentation 3, then 13", cell(text(presentation=bits(0x17, 3), transform=strans(mag("c120000000000000"))))),
+        ("13, then 29", cell(text(transform=strans(mag("c120000000000000"), angle(TOO_FINE))))),
+        ("29, then 14", cell(text(transform=strans(mag(TOO_FINE), angle("0008000000000000"))))),
+        ("14, then two points", cell(text(transform=strans(mag("0008000000000000")), xy=long(0x10, 1, 2, 3, 4)))),
+        ("two points, then 10", cell(text(xy=long(0x10, 1, 2, 3, 4), s=string(0x19, b"x" * 514)))),
+        ("29 and 13", magnified("c1ffffffffffffff")),
+        ("13 and 14", magnified("8000000000000001")),
+        ("7, then 13", cell(sref(name=b"B-", transform=strans(mag("c120000000000000"))))),
+        ("13, then 11", cell(aref((0, 1), transform=strans(mag("c120000000000000"))))),
+        ("11, then two points", cell(aref((2, 32768), (0, 0, 4, 0)))),
+        ("11, then 30", cell(aref((2, 32768), (0, 0, 5, 0, 0, 9)))),
+        ("9, and the bytes end", HEAD + boundary(layer=256)[:12]),
+        ("9, and a byte after ENDSTR", cell(boundary(layer=256)) + b"\0"),
+        # all kinds
+        ("a mixed cell", cell(boundary(), path(long(0x0f, 10)), text(transform=strans(bits_of=0x8000)), node(), sref(),
+                              aref(transform=strans(angle("425a000000000000"))), owned(owns(7, b"v\0")))),
+    ]
+
+
+def fault_of(fault):
+    return {None: "none", NO_RECORD: "some noRecord", NOT_OF_GRAMMAR: "some notOfGrammar", 11: "some (beyond R.ColumnsOrRows)", 30: "some (beyond R.ArrayCorners)"}[fault]
+
+
+def read_as(data):
+    answer = reading_model.read(data)
+    return f"ok {len(answer[1])} 0x{answer[1].hex()}" if answer[0] == "ok" else "no {} {}".format(*answer[1:])
+
+
+def stream_row(why, data):
+    return (f"record {{ size = {len(data)}; bytes = 0x{data.hex() or '0'}; fault = {fault_of(reading_model.grammar_fault(data))}; "
+            f"reading = {read_as(data)} }} {{- {why} -}}")
+
+
+def streams_module(path):
+    """The streams above, and those of small stored cells, each with what the model finds in it."""
+    by_hand = grammar_streams()
+    for why, data, fault in by_hand:
+        assert reading_model.grammar_fault(data) == fault, why
+    rows = [(why, data) for why, data, _ in by_hand] + sheet_streams()
+    stored = sorted((v for v in read_vectors(path) if v.fields[0] == "ok"), key=lambda v: len(v.lines[1]))
+    rows += [(v.name, bytes.fromhex(v.lines[1])) for v in stored if len(v.lines[1]) <= 2 * LARGEST][::8]
+    return len(rows), '''-- Streams with what is read from them: made by tools/computed_cases.py. Assumes nothing.
 use mathlib.Core.Option.{Option, none, some}
 use mathlib.Core.List.{List, [], _∷_}
 use Prim.Native.Nat.{ℕ}
-use Rattle.stream.specs.Read.{Fault, noRecord, notOfGrammar, noInstance, notWhole}
+use Rattle.refusal.specs.declared.Refusal.the-variants as R
+use Rattle.stream.specs.Read.{Fault, noRecord, notOfGrammar, beyond}
 
--- a stream, as one number with its count of bytes, and its fault, if it has one
+-- what reading to a sheet gives (document 02, request 8): number and block; or the sheet, as one number with its count of bytes
+pub data Answer : Type 0 where
+  no : ℕ → ℕ → Answer
+  ok : ℕ → ℕ → Answer
+
+-- a stream, as one number with its count of bytes; the fault that the grammar alone finds in it, if any, first in byte order (document 01, "What a structure draws"); and what reading to a sheet gives
 pub record Stream : Type 0 where
   pub size : ℕ
   pub bytes : ℕ
   pub fault : Option Fault
+  pub reading : Answer
 
 unfoldable pub streams : List Stream
 streams =
-''' + "".join(f"    {'∷ ' if k else ''}record {{ size = {len(x)}; bytes = 0x{x.hex() or '0'}; fault = {f} }} {{- {why} -}}\n" for k, (why, x, f) in enumerate(rows)) + "    ∷ []\n"
+''' + "".join(f"    {'∷ ' if k else ''}{stream_row(why, data)}\n" for k, (why, data) in enumerate(rows)) + "    ∷ []\n"
 
 
 # ---- the definitions that a computed test opens
 
-BELOW = "big_endian binary64 units gds_format conversion parsing sheet stream cell".split()
+BELOW = "big_endian binary64 units gds_format conversion parsing sheet stream cell reading".split()
 IEEE = "ofBits toBits mul div sub neg lt le eq ofInt round sum add size".split()
 
 
@@ -301,7 +488,7 @@ def open_module():
 
 def main():
     count, cells = cells_module(sys.argv[1])
-    number, rows = streams_module()
+    number, rows = streams_module(sys.argv[1])
     for path, content in (("specs/Cells.antt", cells), ("specs/Streams.antt", rows), ("proofs/Open.antt", open_module())):
         with open("crates/cases/" + path, "w") as f:
             f.write(content)

@@ -12,6 +12,7 @@ use lib.Ieee.Scale.{finite}
 use Rattle.refusal.specs.declared.Refusal.{Refusal}
 use Rattle.refusal.specs.declared.Refusal.the-variants as R
 use Rattle.big_endian.specs.Big.{numberAt}
+use Rattle.binary64.specs.Value.{zero64}
 use Rattle.units.specs.declared.Unit as U
 use Rattle.units.specs.Point.{Point, endpoint}
 use Rattle.conversion.specs.declared.Entry.{Entry}
@@ -20,7 +21,7 @@ use Rattle.conversion.specs.declared.PhysicalValue.{PhysicalValue}
 use Rattle.conversion.specs.declared.PhysicalValue.the-variants as Q
 use Rattle.conversion.specs.Answer.{physicalOf}
 use Rattle.conversion.specs.Array.{physicalPoint, physicalSpacing, endpointPhysical, writePhysical, writeEndpoint}
-use Rattle.conversion.specs.Convert.{Spot, zero64, inRange, ranged, deviations, physicalValue, convertPhysical, arrayEndpoint}
+use Rattle.conversion.specs.Convert.{Spot, inRange, ranged, deviations, physicalValue, convertPhysical, arrayEndpoint}
 use Rattle.conversion.specs.Field.{xAxis, yAxis}
 use Rattle.conversion.specs.Fold.{run}
 use Rattle.conversion.specs.Made.{Made, refused, made, pure, need, _>>=_, _>>_}

@@ -1,14 +1,16 @@
 -- What is made of bytes is bytes, bytes and the number that they stand for, and a number's bytes by halves. Assumes nothing.
 use mathlib.Core.Path.{_≡_, refl, sym, ap, ap₂, _∙_, subst}
 use mathlib.Core.List.{List, [], _∷_, _++_}
-use Prim.Native.Nat.{ℕ, zero, suc, _+_, _*_, _/_, _%_, _^_, _<_}
-use native.Mathlib.Nat.{pow-succ', mod-lt, mul-assoc, add-mul, add-assoc, div-div-eq-div-mul, add-comm, zero-add, suc-add}
+use Prim.Native.Nat.{ℕ, zero, suc, _+_, _*_, _/_, _%_, _^_, _≤_, _<_}
+use native.Mathlib.Nat.{pow-succ', mod-lt, mul-assoc, add-mul, add-assoc, div-div-eq-div-mul, add-comm, zero-add, suc-add, zero-mul, suc-mul, lt-of-not-le}
+use native.Mathlib.Decide.{decLe}
 use native.Mathlib.Omega.{arith}
 use lib.Arith.{digits-div, digits-lt}
 use lib.Dec.{lit<}
 use lib.Pow.{pow-add}
-use lib.ListN.{length}
-use Rattle.big_endian.specs.Big.{Bytes, below, number, bytesOf}
+use lib.ListN.{length, take, drop, length-append, length-take, List·getD-eq-default}
+use lib.Seq.{getD-take, getD-drop}
+use Rattle.big_endian.specs.Big.{Bytes, below, number, bytesOf, joined}
 use Rattle.big_endian.proofs.BigLaws.{length-bytesOf, number-bytesOf}
 
 pub bytes-nil : Bytes []
@@ -28,9 +30,37 @@ bytes-bytesOf (suc k) v zero = mod-lt (v / 256 ^ k) (lit< tt)
 bytes-bytesOf (suc k) v (suc i) = bytes-bytesOf k v i
 
 -- and what bytes are made of
+pub bytes-left : (s t : List ℕ) → Bytes (s ++ t) → Bytes s
+bytes-left [] t h = bytes-nil
+bytes-left (b ∷ s) t h = bytes-cons b s (h 0) (bytes-left s t (λ i. h (suc i)))
+
 pub bytes-right : (s t : List ℕ) → Bytes (s ++ t) → Bytes t
 bytes-right [] t h = h
 bytes-right (b ∷ s) t h = bytes-right s t (λ i. h (suc i))
+
+pub take-bytes : (n : ℕ) (s : List ℕ) → Bytes s → Bytes (take n s)
+take-bytes n s h i = elim (decLe n i) [
+  | yes k ↦ subst (λ (z : ℕ). z < 256) (sym (List·getD-eq-default (take n s) 0 {n = i} (short k))) (lit< tt)
+  | no k ↦ subst (λ (z : ℕ). z < 256) (sym (getD-take n s i 0 (lt-of-not-le k))) (h i)
+]
+  where
+    short : n ≤ i → length (take n s) ≤ i
+    short k = omega (arith, length-take n s)
+
+pub drop-bytes : (n : ℕ) (s : List ℕ) → Bytes s → Bytes (drop n s)
+drop-bytes n s h i = subst (λ (z : ℕ). z < 256) (sym (getD-drop n s i 0)) (h (n + i))
+
+-- ---- parts in a row
+
+pub bytes-joined : {A : Type 0} (f : A → List ℕ) → ((a : A) → Bytes (f a)) → (s : List A) → Bytes (joined f s)
+bytes-joined f h [] = bytes-nil
+bytes-joined f h (a ∷ s) = bytes-append (f a) (joined f s) (h a) (bytes-joined f h s)
+
+-- each of k bytes
+pub length-joined : {A : Type 0} (f : A → List ℕ) (k : ℕ) → ((a : A) → length (f a) ≡ k) → (s : List A) → length (joined f s) ≡ length s * k
+length-joined f k h [] = sym (zero-mul k)
+length-joined f k h (a ∷ s) =
+    length-append (f a) (joined f s) ∙ ap₂ (λ (m n : ℕ). m + n) (h a) (length-joined f k h s) ∙ add-comm k (length s * k) ∙ sym (suc-mul (length s) k)
 
 -- ---- the number that bytes stand for
 

@@ -3,5 +3,6 @@ pub mod BigLaws
 pub mod BytesLaws
 pub mod PlaceLaws
 pub mod BufferLaws
+pub mod ApartLaws
 pub mod WriteLaws
 pub mod SignedLaws

@@ -1,4 +1,4 @@
--- Examples at single doubles; whole numbers and tests; the value of a double, its parts and its pattern; rounding; steps; `mul_add`.
+-- Examples at single doubles; whole numbers and tests; the value of a double, its parts and its pattern; rounding; steps; `mul_add`; order; doubles that are whole numbers.
 pub mod Examples
 pub mod Tests
 pub mod Powers
@@ -8,6 +8,7 @@ pub mod PartsLaws
 pub mod Bits
 pub mod Finite
 pub mod Sign
+pub mod Signed
 pub mod Half
 pub mod Quotient
 pub mod NearestLaws
@@ -16,3 +17,5 @@ pub mod Equal
 pub mod FmaFits
 pub mod Order
 pub mod Snapping
+pub mod Same
+pub mod Exact

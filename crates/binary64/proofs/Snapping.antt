@@ -123,7 +123,7 @@ module _ (x y : Float) (X : T (fits binary64 x)) (Y : T (fits binary64 y)) (f : 
       go true false b c p q h u v = inl (omega arith)
       go true true b c p q h u v = inl (omega (arith, v h))
 
-  ordered-same : ordered x ≡ ordered y → x ≡ y
+  pub ordered-same : ordered x ≡ ordered y → x ≡ y
   unfolding ordered
   ordered-same h = sym (ofBits-toBits binary64 x X) ∙ ap (ofBits binary64) (go (negative x) (negative y) (toBits binary64 x) (toBits binary64 y) (pattern-of x X f) (pattern-of y Y g) h) ∙ ofBits-toBits binary64 y Y
     where
@@ -139,7 +139,7 @@ module _ (x y : Float) (X : T (fits binary64 x)) (Y : T (fits binary64 y)) (f : 
 div-rest : (n u r a : ℕ) → r < u → a ≡ n * u + r → a / u ≡ n
 div-rest n u r a h e = ap (λ (z : ℕ). z / u) (e ∙ add-comm (n * u) r) ∙ add-mul-div-right r n (lt-of-le-of-lt zero-le h) ∙ ap (λ (z : ℕ). z + n) (div-eq-of-lt h) ∙ zero-add n
 
-half-up-whole : (n : ℕ) → halfUp (n * unit) ≡ n
+pub half-up-whole : (n : ℕ) → halfUp (n * unit) ≡ n
 half-up-whole n = div-rest n (2 * unit) unit (2 * (n * unit) + unit) (lit< tt) (ap (λ (z : ℕ). z + unit) (mul-left-comm 2 n unit))
 
 cut-whole : (n : ℕ) → cutDown (n * unit) ≡ n

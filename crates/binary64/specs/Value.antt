@@ -3,6 +3,7 @@
 -- `f64::floor`, `f64::ceil` and `f64::round` have it (IEEE 754, 5.9). Of a NaN or an infinity each is 0: who cares for those asks `finite` first.
 use mathlib.Core.Bool.{Bool, false, cond}
 use Prim.Native.Nat.{ℕ, _+_, _-_, _*_, _/_, _^_}
+use lib.Dec.{eqb}
 use lib.IntN.{ℤ, pos, negsuc, negℤ}
 use lib.Ieee.{Float, nan, inf, fin}
 use lib.Ieee.Positive.{num, den}
@@ -59,3 +60,18 @@ ceilOf x = negℤ (floorDiv (negℤ (scaled x)) unit)
 unfoldable pub roundAway : Float → ℤ
 unfolding sizeOf negative
 roundAway x = signed (negative x) (halfUp (sizeOf x))
+
+-- the same whole number
+abbrev pub sameInt : ℤ → ℤ → Bool
+sameInt (pos a) (pos b) = eqb a b
+sameInt (pos a) (negsuc b) = false
+sameInt (negsuc a) (pos b) = false
+sameInt (negsuc a) (negsuc b) = eqb a b
+
+-- ---- the doubles 0, with no minus sign, and 1
+
+abbrev pub zero64 : Float
+zero64 = fin false 0 (pos 0)
+
+abbrev pub one64 : Float
+one64 = fin false 1 (pos 0)

@@ -11,6 +11,7 @@ use lib.IntN.{ℤ}
 use lib.Ieee.{Float, eq}
 use lib.Ieee.Fits.{and-r}
 use lib.Ieee.Positive.{positive}
+use Rattle.binary64.specs.Value.{zero64, one64}
 use Rattle.refusal.specs.declared.Refusal.{Refusal}
 use Rattle.refusal.specs.Number.{number}
 use Rattle.units.specs.declared.Unit.{Unit}
@@ -21,7 +22,7 @@ use Rattle.conversion.specs.declared.GdsRoundingPolicy.{GdsRoundingPolicy}
 use Rattle.conversion.specs.declared.GdsRoundingPolicy.the-variants.{Nearest, Floor, Ceil, ErrorIfOffGrid}
 use Rattle.conversion.specs.declared.Deviation.{Deviation}
 use Rattle.conversion.specs.Made.{Made, refused, made, after, need, _>>=_, _>>_}
-use Rattle.conversion.specs.Convert.{Spot, zero64, rounded, ranged, gridValue, databaseValue, convertPhysical, physicalValue, convertBy, convertUnit, arrayEndpoint}
+use Rattle.conversion.specs.Convert.{Spot, rounded, ranged, gridValue, databaseValue, convertPhysical, physicalValue, convertBy, convertUnit, arrayEndpoint}
 use Rattle.conversion.specs.Points.{writePoint, writePoints, writeLength}
 use Rattle.conversion.specs.Array.{physicalPoint, physicalSpacing, writePhysical, writeEndpoint, convertArray}
 use Rattle.sheet.specs.Element as S
@@ -32,7 +33,7 @@ use Rattle.stream.specs.Structure as D
 use Rattle.cell.specs.Limits.{maxSheetLength}
 use Rattle.cell.specs.Stamps.{stampsFit}
 use Rattle.cell.specs.Names.{isName}
-use Rattle.cell.specs.Write.{one64, layerAndType, writeProperties, encodable, writeReal, writeMagnification, writeAngle, writeTransform, single, writeShape, writePolygon, writeNode, writePath, writeText, writeSref, writeAref, writeReference, writeBody, writeElement}
+use Rattle.cell.specs.Write.{layerAndType, writeProperties, encodable, writeReal, writeMagnification, writeAngle, writeTransform, single, writeShape, writePolygon, writeNode, writePath, writeText, writeSref, writeAref, writeReference, writeBody, writeElement}
 use Rattle.cell.specs.Cell.{Result, stopped, written, writeOne, writeBlock, writeBlocks, structureWith, writeHeaded, writeSheet, policyOf, measureWith, measureCell}
 use Rattle.cell.proofs.ResultLaws.{Stops, check-stops}
 

@@ -12,13 +12,14 @@ use lib.Ieee.{Float, binary64, fits}
 use lib.Ieee.Bits.{is-true as on}
 use lib.Ieee.Positive.{positive}
 use Rattle.big_endian.specs.Big.{Bytes}
+use Rattle.big_endian.proofs.BytesLaws.{take-bytes, drop-bytes}
 use Rattle.parsing.specs.All.{All, done, more}
 use Rattle.conversion.specs.declared.GdsRoundingPolicy.{GdsRoundingPolicy}
 use Rattle.conversion.specs.Made.{Made, refused, made}
 use Rattle.sheet.specs.Element.{Head, Element, kindOf, headOf, elementOf}
 use Rattle.sheet.specs.Blocks.{pairCount, lengthOf, offsetOf, pairsFit, blockOf, blocksFrom}
 use Rattle.sheet.specs.Cell.{consTo, elementsOf, cellFrom, elementBlocks, cellOf}
-use Rattle.sheet.proofs.FineLaws.{take-bytes, drop-bytes, element-fine, head-fine}
+use Rattle.sheet.proofs.FineLaws.{element-fine, head-fine}
 use Rattle.stream.specs.Structure.{Said, Structure}
 use Rattle.stream.specs.Drawn.{elementsDrawn, drawnOf}
 use Rattle.stream.proofs.Fit.{FitElement, FitStructure}
@@ -90,7 +91,7 @@ module _ (policy : GdsRoundingPolicy) (d : Float) (fd : T (fits binary64 d)) (pd
   structure-sound sheet h (written ws es) all pairs hh hn w =
       let fine = head-fine (blockOf sheet 0) h (block-bytes sheet 0 all) hh in
       let alike : Alike policy d (record { head = h; elements = w .elements }) (drawnOf (structureFor h ws)) = record { name = trimmed-padded (h .name); elements = w .alike } in
-      let fit : FitStructure (structureFor h ws) = record { stamps = fine .stamps; twelve = fine .twelve; name = name-even (h .name) hn (fine .name); elements = w .fit } in
+      let fit : FitStructure (structureFor h ws) = record { stamps = fine .stamps; twelve = fine .twelve; name = name-even (h .name) hn (fine .name .bytes); elements = w .fit } in
       record {
         fit = fit;
         draws = λ n e. record {

@@ -20,6 +20,7 @@ use Rattle.conversion.specs.Made.{Made, pure, _>>=_}
 use Rattle.conversion.specs.Field.{widthField, beginField, endField, originField}
 use Rattle.conversion.proofs.MadeLaws.{Yields, made-yields, steps, then-steps, checked, needed}
 use Rattle.conversion.proofs.ArrayLaws.{AxisConverted, array-converted, instances-close, EndpointInRange}
+use Rattle.sheet.specs.Element.{maxPathType}
 use Rattle.sheet.specs.Element as S
 use Rattle.sheet.proofs.Fine.{FineShape, FinePath, FineText, FineReference, FineBody, FineElement}
 use Rattle.sheet.proofs.Fine as F
@@ -49,9 +50,9 @@ within-lo lo n hi t = leb→le lo n (and-l (leb lo n) (leb n hi) t)
 word-below : (hi n : ℕ) → hi < 65536 → n ≤ hi → Word n
 word-below hi n l h = omega arith
 
-opt-word : (x : Option ℕ) → Opt (λ n. n ≤ 2) x → Opt Word x
+opt-word : (x : Option ℕ) → Opt (λ n. n ≤ maxPathType) x → Opt Word x
 opt-word none h = absent
-opt-word (some n) (present h) = present (word-below 2 n (lit< tt) h)
+opt-word (some n) (present h) = present (word-below maxPathType n (lit< tt) h)
 
 pub name-even : (s : List ℕ) → T (isName s) → Bytes s → Even (padded s)
 unfolding isName
@@ -95,7 +96,7 @@ module _ (policy : GdsRoundingPolicy) (d : Float) (fd : T (fits binary64 d)) (pd
       let k2 = then-steps (k1 .then) in
       let k3 = steps (k2 .then) in
       let lt = layered (e .layer) (e .datatype) (k2 .value) (k2 .first) in
-      let ps = points-alike policy d fd pd 0 (e .points) (k3 .value) (h .points) (k3 .first) in
+      let ps = points-alike policy d fd pd 0 (e .points) (k3 .value) (h .points .each) (k3 .first) in
       let c : length (k3 .value) ≤ maxPoints = subst (λ (n : ℕ). n ≤ maxPoints) (sym (ps .count)) (le-trans (within-hi least (length (e .points)) most (k1 .passed)) m) in
       subst (λ (z : D.Shape). ShapeWritten e z) (made-yields (k3 .then))
       (record {
@@ -131,7 +132,7 @@ module _ (policy : GdsRoundingPolicy) (d : Float) (fd : T (fits binary64 d)) (pd
       let lw = length-alike policy d fd pd widthField (e .width) (kw .value) (h .width) (kw .first) in
       let lb = length-alike policy d fd pd beginField (e .begin) (kb .value) (h .begin) (kb .first) in
       let le = length-alike policy d fd pd endField (e .end) (ke .value) (h .end) (ke .first) in
-      let ps = points-alike policy d fd pd 0 (e .points) (kp .value) (h .points) (kp .first) in
+      let ps = points-alike policy d fd pd 0 (e .points) (kp .value) (h .points .each) (kp .first) in
       let c : length (kp .value) ≤ maxPoints = subst (λ (n : ℕ). n ≤ maxPoints) (sym (ps .count)) (within-hi minPathPoints (length (e .points)) maxPoints (k1 .passed)) in
       subst (λ (z : D.Path). PathWritten e z) (made-yields (kp .then))
       (record {
@@ -161,7 +162,7 @@ module _ (policy : GdsRoundingPolicy) (d : Float) (fd : T (fits binary64 d)) (pd
           presentation = present (small (e .vertical) (e .horizontal) (h .vertical) (h .horizontal));
           transform = t .fit;
           origin = o .fit;
-          string = padded-even (e .string) maxStringLength (leb→le (length (e .string)) maxStringLength (k2 .passed)) (lit< tt) (h .string);
+          string = padded-even (e .string) maxStringLength (leb→le (length (e .string)) maxStringLength (k2 .passed)) (lit< tt) (h .string .bytes);
         };
       })
     where
@@ -189,7 +190,7 @@ module _ (policy : GdsRoundingPolicy) (d : Float) (fd : T (fits binary64 d)) (pd
           transform = u .alike;
           origin = o .alike;
         };
-        fit = record { name = name-even (e .name) n (h .name); transform = u .fit; origin = o .fit };
+        fit = record { name = name-even (e .name) n (h .name .bytes); transform = u .fit; origin = o .fit };
       })
 
   -- on one axis
@@ -227,7 +228,7 @@ module _ (policy : GdsRoundingPolicy) (d : Float) (fd : T (fits binary64 d)) (pd
               y = instances-alike (e .columns) (e .rows) _ _ _ _ _ _ (a .y);
             }));
         fit = record {
-          name = name-even (e .name) n (h .name);
+          name = name-even (e .name) n (h .name .bytes);
           transform = u .fit;
           columns = word-below maxColRow (e .columns) (lit< tt) (within-hi 1 (e .columns) maxColRow hc);
           rows = word-below maxColRow (e .rows) (lit< tt) (within-hi 1 (e .rows) maxColRow hr);
@@ -293,6 +294,6 @@ module _ (policy : GdsRoundingPolicy) (d : Float) (fd : T (fits binary64 d)) (pd
       let k1 = steps y in
       let k2 = steps (k1 .then) in
       let b = body-written (e .body) (k1 .value) (h .body) (k1 .first) in
-      let qs = properties-alike (e .properties) (k2 .value) (h .properties) (k2 .first) in
+      let qs = properties-alike (e .properties) (k2 .value) (h .properties .each) (k2 .first) in
       subst (λ (z : D.Said). Written e z) (made-yields (k2 .then))
       (record { alike = record { body = b .alike; properties = qs .alike }; fit = record { body = b .fit; properties = qs .fit } })

@@ -12,8 +12,8 @@ use Rattle.big_endian.specs.Big.{Bytes}
 use Rattle.refusal.specs.declared.Refusal.{Refusal}
 use Rattle.refusal.specs.declared.Refusal.the-variants as R
 use Rattle.parsing.specs.All.{All}
+use Rattle.binary64.specs.Value.{zero64}
 use Rattle.conversion.specs.declared.Entry.{Entry}
-use Rattle.conversion.specs.Convert.{zero64}
 use Rattle.conversion.specs.Entry.{greatestFrom}
 use Rattle.stream.specs.Structure.{Structure}
 use Rattle.stream.specs.Records.{structureRecords}

@@ -13,7 +13,7 @@ use lib.Ieee.Scale.{finite}
 use lib.Ieee.Positive.{positive}
 use Rattle.big_endian.specs.Big.{Bytes, bytesOf}
 use Rattle.big_endian.proofs.BytesLaws.{bytes-bytesOf}
-use Rattle.binary64.specs.Value.{scaled, sizeOf, negative}
+use Rattle.binary64.specs.Value.{scaled, sizeOf, negative, zero64, one64}
 use Rattle.binary64.proofs.Equal.{eq-scaled, eq-finite}
 use Rattle.parsing.specs.All.{All, done, more, Opt, absent, present}
 use Rattle.units.specs.declared.Unit.{Unit}
@@ -28,17 +28,17 @@ use Rattle.conversion.specs.declared.GdsRoundingPolicy.{GdsRoundingPolicy}
 use Rattle.conversion.specs.Made.{Made, pure}
 use Rattle.conversion.proofs.MadeLaws.{Yields, no-yield, made-yields, steps, checked}
 use Rattle.conversion.specs.Field.{pointField, xAxis, yAxis, noAxis}
-use Rattle.conversion.specs.Convert.{Spot, zero64, inRange, convertBy, convertUnit}
+use Rattle.conversion.specs.Convert.{Spot, inRange, convertBy, convertUnit}
 use Rattle.conversion.proofs.ConvertLaws.{unit-converted, unit-passed}
 use Rattle.conversion.specs.Points.{spot, writePoint, writePoints, writeLength}
 use Rattle.sheet.specs.Element as S
-use Rattle.sheet.proofs.Fine.{FineUnit, FinePoint, FineProperty}
+use Rattle.sheet.proofs.Fine.{FineUnit, integer, FinePoint, FineProperty}
 use Rattle.stream.specs.Structure as D
 use Rattle.stream.specs.Drawn.{one, realOf, transformOf, propertiesDrawn}
 use Rattle.stream.proofs.Fit.{Long, Real, FitPoint, FitProperty, FitStrans}
 use Rattle.stream.proofs.StringLaws.{trimmed-padded, padded-even}
 use Rattle.cell.specs.Limits.{maxValueLength}
-use Rattle.cell.specs.Write.{one64, encodable, writeReal, writeMagnification, writeAngle, stransOf, writeTransform, writeProperties}
+use Rattle.cell.specs.Write.{encodable, writeReal, writeMagnification, writeAngle, stransOf, writeTransform, writeProperties}
 use Rattle.cell.specs.Draws as W
 use Rattle.cell.specs.Draws.{Each, Both, AlikeBy, AlikeCoordinate, AlikePoint, AlikeProperty, AlikeTransform}
 
@@ -58,7 +58,7 @@ properties-alike (p ∷ ps) qs (more h hs) y =
     subst (λ (z : List D.Property). Properties (p ∷ ps) z) (made-yields (k2 .then))
     (record {
       alike = W.more (record { attribute = refl; value = trimmed-padded (p .value) }) (r .alike);
-      fit = more (record { attribute = h .attribute; value = padded-even (p .value) maxValueLength (leb→le (length (p .value)) maxValueLength (k1 .passed)) (lit< tt) (h .value) }) (r .fit);
+      fit = more (record { attribute = h .attribute; value = padded-even (p .value) maxValueLength (leb→le (length (p .value)) maxValueLength (k1 .passed)) (lit< tt) (h .value .bytes) }) (r .fit);
     })
 
 -- ---- reals
@@ -151,7 +151,7 @@ module _ (policy : GdsRoundingPolicy) (d : Float) (F : T (fits binary64 d)) (b :
 
   passed-long : (u : Unit) (v : ℤ) → FineUnit u → passed d u ≡ some v → Long v
   unfolding passed
-  passed-long (U.Integer v u) z h e = go (eq u d) e
+  passed-long (U.Integer v u) z (integer h k) e = go (eq u d) e
     where
       go : (c : Bool) → cond c (some v) none ≡ some z → Long z
       go true e =

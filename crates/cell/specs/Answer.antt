@@ -2,8 +2,8 @@
 use Prim.Native.Nat.{ℕ}
 use lib.ListN.{length}
 use lib.Ieee.{binary64, toBits}
+use Rattle.binary64.specs.Value.{zero64}
 use Rattle.refusal.specs.Number.{number}
-use Rattle.conversion.specs.Convert.{zero64}
 use Rattle.conversion.specs.Entry.{greatestFrom}
 use Rattle.stream.specs.Structure.{Structure}
 use Rattle.cell.specs.declared.Answer.{Answer}

@@ -9,12 +9,12 @@ use lib.ListN.{length}
 use lib.IntN.{ℤ, pos, negsuc}
 use lib.Ieee.{Float, fin, eq, le}
 use lib.Ieee.Scale.{finite}
+use Rattle.binary64.specs.Value.{sameInt, zero64, one64}
 use Rattle.refusal.specs.declared.Refusal.the-variants as R
 use Rattle.units.specs.Point.{Point}
 use Rattle.gds_format.specs.Real8.{real8}
 use Rattle.conversion.specs.declared.GdsRoundingPolicy.{GdsRoundingPolicy}
 use Rattle.conversion.specs.Made.{Made, Done, refused, pure, need, _>>=_, _>>_}
-use Rattle.conversion.specs.Convert.{zero64}
 use Rattle.conversion.specs.Points.{writePoint, writePoints, writeLength}
 use Rattle.conversion.specs.Array.{convertArray}
 use Rattle.conversion.specs.Field.{widthField, beginField, endField, originField}
@@ -46,9 +46,6 @@ writeProperties (q ∷ qs) = do
 
 -- ---- the transform
 
-abbrev pub one64 : Float
-one64 = fin false 1 (pos 0)
-
 -- 14: a real that is not finite or not encodable
 unfoldable pub encodable : Option (List ℕ) → Made (List ℕ)
 encodable none = refused R.Real
@@ -79,12 +76,6 @@ writeTransform degrees magnification reflection = do
   pure (stransOf reflection m a)
 
 -- ---- a polygon's ends
-
-abbrev pub sameInt : ℤ → ℤ → Bool
-sameInt (pos a) (pos b) = eqb a b
-sameInt (pos a) (negsuc b) = false
-sameInt (negsuc a) (pos b) = false
-sameInt (negsuc a) (negsuc b) = eqb a b
 
 abbrev pub samePoint : Point ℤ → Point ℤ → Bool
 samePoint p q = sameInt (p .x) (q .x) && sameInt (p .y) (q .y)

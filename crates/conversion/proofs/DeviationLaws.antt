@@ -4,10 +4,11 @@ use mathlib.Core.Bool.{Bool, true, false, not, _&&_}
 use mathlib.Core.List.{[], _∷_}
 use lib.IntN.{ℤ}
 use lib.Ieee.{Float, binary64, lt, div, ofInt, ofBits}
+use Rattle.binary64.specs.Value.{zero64}
 use Rattle.binary64.specs.Step.{oneStep}
 use Rattle.conversion.specs.declared.Deviation.{Deviation}
 use Rattle.conversion.specs.Made.{made, pure}
-use Rattle.conversion.specs.Convert.{Spot, zero64, abs, difference, errorOf, counts, deviations}
+use Rattle.conversion.specs.Convert.{Spot, abs, difference, errorOf, counts, deviations}
 
 -- 0.0 as the code has it
 pub zero-is : ofBits binary64 0 ≡ zero64

@@ -8,6 +8,7 @@ use native.Mathlib.Omega.{arith}
 use lib.Dec.{ltb, T, ltb→lt, nltb→le}
 use lib.IntN.{ℤ, pos, negsuc, negℤ, natAbs, subℕ, _+ℤ_, _-ℤ_, _*ℤ_, negℤ-negℤ}
 use Rattle.binary64.specs.Value.{signed}
+use Rattle.binary64.proofs.Signed.{signed-scale}
 use Rattle.binary64.proofs.Half.{Near, near-times, near-cancel, near-eq}
 
 -- ---- whole numbers of one sign
@@ -34,11 +35,6 @@ pub signed-abs : (s : Bool) (a b : ℕ) → natAbs (signed s a -ℤ signed s b) 
 signed-abs false a b = pos-abs a b
 signed-abs true a b = ap (λ (z : ℤ). natAbs (negℤ (pos a) +ℤ z)) (negℤ-negℤ (pos b)) ∙ neg-abs a b
 
-pub signed-times : (s : Bool) (k d : ℕ) → signed s k *ℤ pos d ≡ signed s (k * d)
-signed-times false k d = refl
-signed-times true zero d = ap pos (zero-mul d) ∙ sym (ap (λ (z : ℕ). negℤ (pos z)) (zero-mul d))
-signed-times true (suc k) d = refl
-
 -- ---- nearness adds up
 
 pub near-sum : {p q r u v : ℕ} → Near p q u → Near q r v → Near p r (u + v)
@@ -62,7 +58,7 @@ near-grid k S P D u w c W e m n =
 -- the same, as a distance of whole numbers
 pub near-abs : (s : Bool) (k P D n : ℕ) → Near (k * D * 2 ^ 21) (P * 2 ^ 21) (n * D) → natAbs (signed s k *ℤ pos D -ℤ signed s P) * 2 ^ 22 ≤ n * D
 near-abs s k P D n m =
-    let e : natAbs (signed s k *ℤ pos D -ℤ signed s P) ≡ k * D - P + (P - k * D) = ap (λ (z : ℤ). natAbs (z -ℤ signed s P)) (signed-times s k D) ∙ signed-abs s (k * D) P in
+    let e : natAbs (signed s k *ℤ pos D -ℤ signed s P) ≡ k * D - P + (P - k * D) = ap (λ (z : ℤ). natAbs (z -ℤ signed s P)) (signed-scale s k D) ∙ signed-abs s (k * D) P in
     subst (λ (z : ℕ). z * 2 ^ 22 ≤ n * D) (sym e) (go (k * D) P (n * D) (m .above) (m .below))
   where
     go : (a b m : ℕ) → a * 2 ^ 21 * 2 ≤ b * 2 ^ 21 * 2 + m → b * 2 ^ 21 * 2 ≤ a * 2 ^ 21 * 2 + m → (a - b + (b - a)) * 2 ^ 22 ≤ m

@@ -12,4 +12,5 @@ pub mod GridLaws
 pub mod DeviationLaws
 pub mod AnswerLaws
 pub mod SignedLaws
+pub mod WholeLaws
 pub mod Rows

@@ -85,7 +85,10 @@ pub pure-then : {A B : Type 0} (a : A) (f : A → Made B) → pure a >>= f ≡ f
 unfolding _>>=_
 pure-then a f = none-before (f a)
 
--- the value of a step that reports nothing, handed on
+-- a step that is known to report nothing, then another
+pub then-pure : {A B : Type 0} {m : Made A} {a : A} (f : A → Made B) {r : Made B} → m ≡ pure a → f a ≡ r → m >>= f ≡ r
+then-pure {a = a} f e g = ap (λ (m : Made _). m >>= f) e ∙ pure-then a f ∙ g
+
 pub refused-then : {A B : Type 0} (r : Refusal) (f : A → Made B) → refused r >>= f ≡ refused r
 unfolding _>>=_
 refused-then r f = refl

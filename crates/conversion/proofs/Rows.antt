@@ -8,6 +8,7 @@ use lib.ListN.{length}
 use lib.IntN.{ℤ, pos, negsuc}
 use lib.Ieee as Ieee
 use lib.Ieee.{Float, fin, binary64, ofBits, toBits}
+use Rattle.binary64.specs.Value.{sameInt}
 use Rattle.binary64.specs.Value as Value
 use Rattle.binary64.specs.Step as Step
 use Rattle.binary64.specs.Fma as Fma
@@ -68,14 +69,7 @@ pub data Row : Type 0 where
   -- nearest, in a unit d: an integer of unit d as an array's origin x, with a column spacing in a unit of 0, and the refusal's number
   arrayRefuses : ℕ → ℤ → ℕ → Row
 
-unfoldable pub sameInt : ℤ → ℤ → Bool
-sameInt (pos a) (pos b) = eqb a b
-sameInt (pos a) (negsuc b) = false
-sameInt (negsuc a) (pos b) = false
-sameInt (negsuc a) (negsuc b) = eqb a b
-
 unfoldable pub isConverted : Made ℤ → ℤ → ℕ → Bool
-unfolding sameInt
 isConverted (refused r) q n = false
 isConverted (made z vs) q n = sameInt z q && eqb (length vs) n
 
@@ -84,7 +78,7 @@ isRefused (refused r) n = eqb (number r) n
 isRefused (made z vs) n = false
 
 unfoldable pub hasEntry : List Entry → Corners → Bool
-unfolding opened sameInt
+unfolding opened
 hasEntry [] c = false
 hasEntry (e ∷ []) c =
     eqb (e .count) (c .count) && eqb (e .field) (c .field) && eqb (toBits binary64 (e .physical)) (c .p) && sameInt (e .database) (c .q) && eqb (toBits binary64 (e .error)) (c .error)
@@ -92,7 +86,7 @@ hasEntry (e ∷ f ∷ es) c = false
 
 -- the corners on x as due, and on y 0
 unfoldable pub isArray : Made ArrayPoints → ℕ → ℕ → Corners → Bool
-unfolding opened hasEntry sameInt
+unfolding opened hasEntry
 isArray (refused r) columns rows c = false
 isArray (made a vs) columns rows c =
     sameInt (a .origin .x) (c .origin)

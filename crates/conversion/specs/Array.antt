@@ -3,6 +3,7 @@ use mathlib.Core.Option.{Option, none, some}
 use Prim.Native.Nat.{ℕ}
 use lib.IntN.{ℤ, pos}
 use lib.Ieee.{Float, binary64, mul, neg, ofInt}
+use Rattle.binary64.specs.Value.{zero64}
 use Rattle.binary64.specs.Fma.{fma}
 use Rattle.units.specs.declared.Unit.{Unit}
 use Rattle.units.specs.Physical.{physical}
@@ -10,7 +11,7 @@ use Rattle.units.specs.Point.{Point}
 use Rattle.conversion.specs.declared.GdsRoundingPolicy.{GdsRoundingPolicy}
 use Rattle.conversion.specs.Made.{Made, Done, pure, _>>=_, _>>_}
 use Rattle.conversion.specs.Field.{originField, columnSpacingField, rowSpacingField, columnEndpointField, rowEndpointField, xAxis, yAxis}
-use Rattle.conversion.specs.Convert.{zero64, physicalValue, convertPhysical, arrayEndpoint}
+use Rattle.conversion.specs.Convert.{physicalValue, convertPhysical, arrayEndpoint}
 use Rattle.conversion.specs.Points.{spot}
 
 -- ---- physical values

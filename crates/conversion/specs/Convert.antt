@@ -8,7 +8,7 @@ use lib.IntN.{ℤ, pos, negsuc}
 use lib.Ieee.{Float, nan, inf, fin, binary64, sub, mul, div, lt, ofInt}
 use lib.Ieee.Scale.{finite}
 use lib.Ieee.Positive.{positive}
-use Rattle.binary64.specs.Value.{roundAway, floorOf, ceilOf}
+use Rattle.binary64.specs.Value.{roundAway, floorOf, ceilOf, zero64}
 use Rattle.binary64.specs.Step.{oneStep, nearestDouble}
 use Rattle.refusal.specs.declared.Refusal.the-variants as R
 use Rattle.units.specs.declared.Unit.{Unit}
@@ -58,9 +58,6 @@ databaseValue policy d p = do
   gridValue policy (div binary64 p d)
 
 -- ---- the deviation
-
-abbrev pub zero64 : Float
-zero64 = fin false 0 (pos 0)
 
 unfoldable pub abs : Float → Float
 abs nan = nan

@@ -50,6 +50,9 @@ number-above R.OutOfRange = omega arith
 number-above R.NotClosed = omega arith
 number-above R.OutputShort = omega arith
 number-above R.ReportShort = omega arith
+number-above R.NotStructure = omega arith
+number-above R.InexactReal = omega arith
+number-above R.ArrayCorners = omega arith
 
 -- where the number is 0, the answer is known from the others
 accepted : (a : Answer) → numberOf a ≡ 0 → a ≡ A.Accepted (lengthOf a) (entriesOf a) (greatestOf a)

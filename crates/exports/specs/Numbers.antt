@@ -2,8 +2,8 @@
 use mathlib.Core.Path.{_≡_}
 use Prim.Native.Nat.{ℕ}
 use lib.Ieee.{Float}
+use Rattle.binary64.specs.Value.{zero64}
 use Rattle.refusal.specs.Number.{number}
-use Rattle.conversion.specs.Convert.{zero64}
 use Rattle.cell.specs.declared.Answer.{Answer}
 use Rattle.cell.specs.declared.Answer.the-variants as A
 

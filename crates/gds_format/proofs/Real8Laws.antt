@@ -15,14 +15,15 @@ use lib.Ieee.Scale.{finite}
 use lib.Pow.{pow-pos}
 use Rattle.big_endian.specs.Big.{bytesOf}
 use Rattle.big_endian.proofs.BigLaws.{length-bytesOf}
-use Rattle.binary64.specs.Value.{sizeOf, negative, signed, scaled}
+use Rattle.binary64.specs.Value.{sizeOf, negative, scaled}
+use Rattle.binary64.proofs.Signed.{scaled-abs, scaled-zero}
 use Rattle.gds_format.specs.declared.Encoding.{Encoding}
 use Rattle.gds_format.specs.declared.Encoding.the-variants.{Refused, Encoded}
 use Rattle.gds_format.specs.declared.GdsReal8Error.the-variants.{NonFinite, MagnitudeTooSmall, MagnitudeTooLarge}
 use Rattle.gds_format.specs.Real8.{real8Value, minMagnitude, maxMagnitude, pattern, encoded, encodeMagnitude, encoding, bytesOfEncoding, real8}
 use Rattle.gds_format.specs.Faithful.{Normalized, Encodable, Zero, OutOfLimits, Faithful, EncoderFaithful}
 use Rattle.gds_format.proofs.Pattern.{double-between, pattern-worth, pattern-normalized}
-use Rattle.gds_format.proofs.Unique.{signed-abs, normalized-least, normalized-most}
+use Rattle.gds_format.proofs.Unique.{normalized-least, normalized-most}
 
 -- ---- the answer, by the four tests
 
@@ -59,18 +60,6 @@ answer x = subst (λ (e : Encoding). Answer x e) (encoding-is x (finite x) (eqb 
     go true false false false a b c d e f g h = tooLarge (a tt) (h tt)
 
 -- ---- the double and its size
-
-zero-scaled : (x : Float) → sizeOf x ≡ 0 → Zero x
-unfolding scaled
-zero-scaled x e = ap (signed (negative x)) e ∙ go (negative x)
-  where
-    go : (s : Bool) → signed s 0 ≡ pos 0
-    go true = refl
-    go false = refl
-
-scaled-abs : (x : Float) → natAbs (scaled x) ≡ sizeOf x
-unfolding scaled
-scaled-abs x = signed-abs (negative x) (sizeOf x)
 
 not-zero : (x : Float) → (sizeOf x ≡ 0 → ⊥) → Zero x → ⊥
 not-zero x n e = n (sym (scaled-abs x) ∙ ap natAbs e)
@@ -123,7 +112,7 @@ module _ (x : Float) (F : T (fits binary64 x)) where
     where
       go : (o : Encoding) → Answer x o → bytesOfEncoding o ≡ some b → real8Value b ≡ scaled x
       go _ (notFinite n) e = none-some e
-      go _ (zeros f z) e = ap real8Value (sym (some-back e)) ∙ zero-value ∙ sym (zero-scaled x z)
+      go _ (zeros f z) e = ap real8Value (sym (some-back e)) ∙ zero-value ∙ sym (scaled-zero x z)
       go _ (tooSmall f z l) e = none-some e
       go _ (between f h k) e = ap real8Value (sym (some-back e)) ∙ between-worth f h k
       go _ (tooLarge f h) e = none-some e
@@ -148,7 +137,7 @@ module _ (x : Float) (F : T (fits binary64 x)) where
     where
       go : (o : Encoding) → Answer x o → bytesOfEncoding o ≡ some b → Normalized b
       go _ (notFinite n) e = none-some e
-      go _ (zeros f n) e = absurd (z (zero-scaled x n))
+      go _ (zeros f n) e = absurd (z (scaled-zero x n))
       go _ (tooSmall f n l) e = none-some e
       go _ (between f h k) e = subst Normalized (some-back e) (between-normalized f h k)
       go _ (tooLarge f h) e = none-some e
@@ -178,7 +167,7 @@ module _ (x : Float) (F : T (fits binary64 x)) where
     where
       go : (o : Encoding) → Answer x o → bytesOfEncoding o ≡ none
       go _ (notFinite m) = refl
-      go _ (zeros f e) = absurd (z (zero-scaled x e))
+      go _ (zeros f e) = absurd (z (scaled-zero x e))
       go _ (tooSmall f m l) = refl
       go _ (between f h k) = absurd (n f h k)
       go _ (tooLarge f h) = refl

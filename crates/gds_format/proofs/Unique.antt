@@ -13,6 +13,7 @@ use lib.Ieee.{size}
 use Rattle.big_endian.specs.Big.{number}
 use Rattle.big_endian.proofs.BigLaws.{number-lt}
 use Rattle.binary64.specs.Value.{signed}
+use Rattle.binary64.proofs.Signed.{signed-abs}
 use Rattle.gds_format.specs.Real8.{real8Value, minMagnitude, maxMagnitude}
 use Rattle.gds_format.specs.Faithful.{Normalized, NormalizedUnique}
 use Rattle.big_endian.proofs.BytesLaws.{Below, below-is, number-once}
@@ -53,11 +54,6 @@ module _ (c : ℕ) (m : List ℕ) (h : Normalized (c ∷ m)) where
 
   worth-most : number m * 2 ^ (4 * (c % 128) + 762) < maxMagnitude
   worth-most = lt-of-lt-of-le (shl-lt 56 (4 * (c % 128) + 762) fraction-room) (pow-mono {i = 56 + (4 * (c % 128) + 762)} {j = 1326} (omega arith))
-
-pub signed-abs : (s : Bool) (n : ℕ) → natAbs (signed s n) ≡ n
-signed-abs false n = refl
-signed-abs true zero = refl
-signed-abs true (suc n) = refl
 
 -- ---- the worth of normalized bytes lies between the limits
 

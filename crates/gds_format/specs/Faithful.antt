@@ -1,6 +1,7 @@
--- What document 01 ("Eight-byte reals") asks of the encoder of doubles, as a statement about its answer. Assumes nothing.
+-- What document 01 ("Eight-byte reals") asks of the encoder of doubles, and document 02 (request 8) of the decoder, as statements about their answers. Assumes nothing.
 use mathlib.Core.Path.{_≡_}
 use mathlib.Core.Logic.{_⊎_}
+use mathlib.Core.Bool.{false}
 use mathlib.Core.Option.{Option, none, some}
 use mathlib.Core.List.{List}
 use Prim.Native.Nat.{ℕ, _/_, _≤_, _<_}
@@ -10,8 +11,9 @@ use lib.ListN.{length, getD}
 use lib.Ieee.{Float, binary64, fits}
 use lib.Ieee.Scale.{finite}
 use Rattle.big_endian.specs.Big.{Bytes, bytesOf}
-use Rattle.binary64.specs.Value.{sizeOf, scaled}
+use Rattle.binary64.specs.Value.{sizeOf, negative, scaled}
 use Rattle.gds_format.specs.Real8.{real8Value, minMagnitude, maxMagnitude, real8}
+use Rattle.gds_format.specs.Decode.{doubleOf}
 
 -- the first of the fourteen hex digits of the fraction
 abbrev pub leadingHexDigit : List ℕ → ℕ
@@ -56,7 +58,26 @@ pub record Faithful (x : Float) (answer : Option (List ℕ)) : Type 0 where
   pub outside : T (finite x) → answer ≡ none → OutOfLimits x
   pub limits : (Zero x → ⊥) → OutOfLimits x → answer ≡ none
 
--- ---- the two claims
+-- ---- reading
+
+-- not minus zero
+abbrev pub Plain : Float → Type 0
+Plain x = sizeOf x ≡ 0 → negative x ≡ false
+
+-- the double x equals the eight bytes, and a zero is plus zero
+pub record Reads (b : List ℕ) (x : Float) : Type 0 where
+  pub fit : T (fits binary64 x)
+  pub finite : T (finite x)
+  pub equal : Equals b x
+  pub plain : Plain x
+
+-- What a decoder answers for eight bytes, a double or none, is faithful to them.
+pub record FaithfulDecoding (b : List ℕ) (answer : Option Float) : Type 0 where
+  pub read : (x : Float) → answer ≡ some x → Reads b x
+  -- "29 a real that no double equals": where none is read, no finite double equals the bytes
+  pub unread : answer ≡ none → (x : Float) → T (fits binary64 x) → T (finite x) → Equals b x → ⊥
+
+-- ---- the claims
 
 -- The encoder is faithful to every double.
 abbrev pub EncoderFaithful : Type 0
@@ -65,3 +86,11 @@ EncoderFaithful = (x : Float) → T (fits binary64 x) → Faithful x (real8 x)
 -- The normalized encoding is unique: bytes that are worth the same are the same.
 abbrev pub NormalizedUnique : Type 0
 NormalizedUnique = (a b : List ℕ) → Normalized a → Normalized b → real8Value a ≡ real8Value b → a ≡ b
+
+-- The decoder is faithful to every eight bytes.
+abbrev pub DecoderFaithful : Type 0
+DecoderFaithful = (b : List ℕ) → FaithfulDecoding b (doubleOf b)
+
+-- A real that was written is read as the double that it was written for.
+abbrev pub WrittenIsRead : Type 0
+WrittenIsRead = (x : Float) (b : List ℕ) → T (fits binary64 x) → Plain x → real8 x ≡ some b → doubleOf b ≡ some x

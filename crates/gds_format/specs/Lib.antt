@@ -1,3 +1,4 @@
 -- Eight-byte reals.
 pub mod Real8
+pub mod Decode
 pub mod Faithful

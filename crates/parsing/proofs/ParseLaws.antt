@@ -1,17 +1,22 @@
 -- What a form gives, where all that it is fed has a property I, as that each is a byte. Assumes nothing.
 use mathlib.Core.Path.{_≡_, refl, sym, ap, _∙_, subst}
 use mathlib.Core.Bool.{Bool, true, false, cond}
-use mathlib.Core.Option.{none, some}
+use mathlib.Core.Option.{Option, none, some}
 use mathlib.Core.List.{List, [], _∷_, _++_}
 use Prim.Native.Nat.{ℕ, zero, suc}
 use native.Mathlib.Omega.{arith}
 use lib.Dec.{T, leb, leb·zero, leb·suc-zero, leb·suc-suc}
 use lib.ListN.{length, take, drop}
-use Rattle.parsing.specs.Parse.{Part, ill, part, Parse, pure, fail, follow, when, map, items, times, ended, whole, _>>=_}
-use Rattle.parsing.specs.All.{All, done, more}
+use Rattle.parsing.specs.Parse.{Part, ill, part, Parse, pure, fail, follow, when, map, present, items, times, ended, whole, _>>=_}
+use Rattle.parsing.specs.All.{All, done, more, Opt}
+use Rattle.parsing.specs.All as A
 
 pub no-part : {F E A B : Type 0} {c : F} {a : A} {r : List E} → ill c ≡ part a r → B
 no-part e = let z : _≡_ {A = ℕ} 0 1 = cc in absurd (omega arith)
+
+-- one part is read, and then what follows it
+pub then : {F E A B : Type 0} {z : Part F E A} {a : A} {s : List E} {w : Part F E B} (f : A → Parse F E B) → z ≡ part a s → f a s ≡ w → follow z f ≡ w
+then f e g = ap (λ (z : Part _ _ _). follow z f) e ∙ g
 
 -- the next n elements, where there are as many
 pub items-append : {F E : Type 0} (c : F) (a b : List E) → items c (length a) (a ++ b) ≡ part a b
@@ -62,6 +67,15 @@ module _ {F E : Type 0} (I : List E → Type 0) where
   pub gives-when : {A : Type 0} {Q : A → Type 0} (c : F) (t : Bool) (p : Parse F E A) → (T t → Gives p Q) → Gives (when c t p) Q
   gives-when c true p g = g tt
   gives-when c false p g = gives-fail c
+
+  -- one of two, by a test
+  pub gives-cond : {A : Type 0} {Q : A → Type 0} (t : Bool) {p q : Parse F E A} → (T t → Gives p Q) → Gives q Q → Gives (cond t p q) Q
+  gives-cond true g h = g tt
+  gives-cond false g h = h
+
+  pub gives-present : {A : Type 0} {Q : A → Type 0} (c : F) (o : Option A) → Opt Q o → Gives (present c o) Q
+  gives-present c none h = gives-fail c
+  gives-present c (some a) (A.present h) = gives-pure a h
 
   pub gives-bind : {A B : Type 0} {Q : A → Type 0} {R : B → Type 0} (p : Parse F E A) (f : A → Parse F E B) → Gives p Q → ((a : A) → Q a → Gives (f a) R) → Gives (p >>= f) R
   gives-bind {A} {B} {Q} {R} p f g k = record { value = λ s b r h e. left s b r h (p s) refl e; rest = λ s b r h e. right s b r h (p s) refl e }

@@ -12,12 +12,13 @@ use lib.Ieee.{Float, fin, le}
 use borrow.Author.Tests.{le-leb, lt-leb, leb-true, not-true, not-false}
 use Rattle.refusal.specs.declared.Refusal.the-variants as R
 use Rattle.big_endian.specs.Big.{numberAt}
+use Rattle.binary64.specs.Value.{one64}
 use Rattle.conversion.specs.Made.{Made, need, _>>_}
 use Rattle.conversion.proofs.MadeLaws.{need-on, need-off}
 use Rattle.sheet.specs.Form.{absentKind}
 use Rattle.cell.specs.Limits.{within, maxNameLength, maxColRow}
 use Rattle.cell.specs.Names.{isName}
-use Rattle.cell.specs.Write.{isSome, one64, inUnit}
+use Rattle.cell.specs.Write.{isSome, inUnit}
 use Rattle.forms.specs.declared.ReferencePlaces.{ReferencePlaces}
 use Rattle.forms.specs.Place.{pointAt, spacingAt, stringAt, stringEnd}
 use Rattle.forms.specs.Forms.{referenceAt}

@@ -1,4 +1,4 @@
-// Why a cell is not written (document 01, "Who can cause which refusal").
+// Why a cell is not written (document 01, "Who can cause which refusal"), and why a structure is not read (document 02, request 8: from `NotStructure` on).
 ghost use mathlib.Core.Path.{_≡_};
 ghost use Rattle.refusal.specs.Number as Number;
 
@@ -25,10 +25,13 @@ pub enum Refusal {
     NotClosed,
     OutputShort,
     ReportShort,
+    NotStructure,
+    InexactReal,
+    ArrayCorners,
 }
 
 impl Refusal {
-    // The number that document 01 gives it.
+    // The number that the documents give it.
     pub fn number(self) -> u8
         ensures { λ r. ⌜ r ≡ Number.number self ⌝ }
     {
@@ -55,6 +58,9 @@ impl Refusal {
             Refusal::NotClosed => 20,
             Refusal::OutputShort => 21,
             Refusal::ReportShort => 22,
+            Refusal::NotStructure => 28,
+            Refusal::InexactReal => 29,
+            Refusal::ArrayCorners => 30,
         }
     }
 }

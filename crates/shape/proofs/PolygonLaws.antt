@@ -8,6 +8,7 @@ use mir.Syntax.{w32}
 use mir.Val.{SFits, toZ, ofZ}
 use mir.ValLaws.{toZ-ofZ}
 use borrow.Author.Tests.{eq-eqb, ne-eqb}
+use Rattle.binary64.specs.Value.{sameInt}
 use Rattle.refusal.specs.declared.Refusal.{Refusal}
 use Rattle.refusal.specs.declared.Refusal.the-variants as R
 use Rattle.units.specs.Point.{Point}
@@ -18,7 +19,7 @@ use Rattle.conversion.specs.Made.{Made, refused, made, pure, after, need, _>>=_
 use Rattle.sheet.specs.Element as S
 use Rattle.stream.specs.Structure as D
 use Rattle.cell.specs.Limits.{minPolygonPoints, maxPoints}
-use Rattle.cell.specs.Write.{sameInt, samePoint, lastOf, closed, writeShape, writePolygon}
+use Rattle.cell.specs.Write.{samePoint, lastOf, closed, writeShape, writePolygon}
 use Rattle.points.specs.declared.Walked.the-variants as W
 use Rattle.points.specs.Walk.{through, walked}
 use Rattle.points.proofs.WalkLaws.{pointOf, point-back}

@@ -17,31 +17,17 @@ use mir.ValLaws.{toZ-fits}
 use mir.Syntax.{w32}
 use Rattle.big_endian.specs.Big.{Bytes, number}
 use Rattle.big_endian.proofs.BigLaws.{number-lt}
+use Rattle.big_endian.proofs.BytesLaws.{take-bytes, drop-bytes}
 use Rattle.parsing.specs.Parse.{ill, part, illFormed, pure, times, _>>=_}
-use Rattle.parsing.specs.Parse as P
 use Rattle.parsing.specs.All.{All, Opt, absent, present}
-use Rattle.parsing.proofs.ParseLaws.{items-is, no-part, Gives, gives-pure, gives-fail, gives-when, gives-bind, gives-map, gives-times, gives-weaker, gives-whole}
+use Rattle.parsing.proofs.ParseLaws.{items-is, no-part, Gives, gives-pure, gives-fail, gives-when, gives-bind, gives-map, gives-times, gives-weaker, gives-whole, gives-cond, gives-present}
 use Rattle.units.specs.declared.Unit.{Unit}
 use Rattle.units.specs.declared.Unit.the-variants as U
 use Rattle.sheet.specs.Form.{Form, integerKind, doubleKind, absentKind, integerLimit, bytes, num, code, flag, double, string, counted, coordinateOf, coordinate, point, spacingOf, spacing}
 use Rattle.sheet.specs.Element.{Head, Element, polygonKind, pathKind, textKind, nodeKind, referenceKind, maxPathType, property, headForm, shapeForm, pathTypeForm, pathForm, textForm, referenceForm, bodyForm, elementForm, headOf, elementOf}
 use Rattle.sheet.specs.Element as S
-use Rattle.sheet.proofs.Fine.{FineUnit, FinePoint, FineProperty, FineHead, FineShape, FinePath, FineText, FineReference, FineBody, FineElement}
+use Rattle.sheet.proofs.Fine.{Word, Double, FineString, Counted, FineUnit, integer, float, FinePoint, FineProperty, FineHead, FineShape, FinePath, FineText, FineReference, FineBody, FineElement}
 use Rattle.sheet.proofs.Fine as F
-
--- ---- bytes
-
-pub take-bytes : (n : ℕ) (s : List ℕ) → Bytes s → Bytes (take n s)
-take-bytes n s h i = elim (decLe n i) [
-  | yes k ↦ subst (λ (z : ℕ). z < 256) (sym (List·getD-eq-default (take n s) 0 {n = i} (short k))) (lit< tt)
-  | no k ↦ subst (λ (z : ℕ). z < 256) (sym (getD-take n s i 0 (lt-of-not-le k))) (h i)
-]
-  where
-    short : n ≤ i → length (take n s) ≤ i
-    short k = omega (arith, length-take n s)
-
-pub drop-bytes : (n : ℕ) (s : List ℕ) → Bytes s → Bytes (drop n s)
-drop-bytes n s h i = subst (λ (z : ℕ). z < 256) (sym (getD-drop n s i 0)) (h (n + i))
 
 -- n bytes
 pub record Run (n : ℕ) (b : List ℕ) : Type 0 where
@@ -73,8 +59,7 @@ bind {A} {B} {Q} {R} {p} {f} g k = gives-bind Bytes p f g k
 
 -- one of two forms, by a test
 either : {A : Type 0} {Q : A → Type 0} (t : Bool) {p q : Form A} → Gives Bytes p Q → Gives Bytes q Q → Gives Bytes (cond t p q) Q
-either true g h = g
-either false g h = h
+either t g h = gives-cond Bytes t (λ x. g) h
 
 -- nothing to say of it
 Any : {A : Type 0} → A → Type 0
@@ -92,17 +77,17 @@ flag-gives : Gives Bytes flag Any
 unfolding flag Any
 flag-gives = gives-map Bytes (λ b. eqb b 1) (code 1) (code-gives 1) (λ b h. tt)
 
-double-gives : Gives Bytes double (λ x. T (fits binary64 x))
+double-gives : Gives Bytes double Double
 unfolding double
 double-gives = gives-map Bytes (ofBits binary64) (num 8) (num-gives 8) (λ b h. ofBits-fits binary64 b)
 
-string-gives : Gives Bytes string Bytes
+string-gives : Gives Bytes string FineString
 unfolding string
-string-gives = bind (num-gives 2) (λ n h. gives-weaker Bytes (bytes n) (λ b k. k .bytes) (bytes-gives n))
+string-gives = bind (num-gives 2) (λ n h. gives-weaker Bytes (bytes n) (λ b k. record { bytes = k .bytes; short = subst Word (sym (k .count)) h }) (bytes-gives n))
 
-counted-gives : {A : Type 0} {Q : A → Type 0} (p : Form A) → Gives Bytes p Q → Gives Bytes (counted p) (All Q)
+counted-gives : {A : Type 0} {Q : A → Type 0} (p : Form A) → Gives Bytes p Q → Gives Bytes (counted p) (Counted Q)
 unfolding counted
-counted-gives p g = bind (num-gives 2) (λ n h. gives-weaker Bytes (times n p) (λ s k. k .all) (gives-times Bytes n p g))
+counted-gives p g = bind (num-gives 2) (λ n h. gives-weaker Bytes (times n p) (λ s k. record { each = k .all; count = subst Word (sym (k .count)) h }) (gives-times Bytes n p g))
 
 -- ---- coordinates
 
@@ -115,8 +100,8 @@ unfolding coordinateOf
 kind-gives k v u =
     either (eqb k integerKind)
     (gives-when Bytes illFormed (ltb v integerLimit) _
-    (λ t. gives-pure Bytes (some (U.Integer (toZ w32 v) (ofBits binary64 u))) (present (toZ-fits w32 v (four-bytes v (ltb→lt v integerLimit t))))))
-    (either (eqb k doubleKind) (gives-pure Bytes (some (U.Float (ofBits binary64 v) (ofBits binary64 u))) (present tt))
+    (λ t. gives-pure Bytes (some (U.Integer (toZ w32 v) (ofBits binary64 u))) (present (integer (toZ-fits w32 v (four-bytes v (ltb→lt v integerLimit t))) (ofBits-fits binary64 u)))))
+    (either (eqb k doubleKind) (gives-pure Bytes (some (U.Float (ofBits binary64 v) (ofBits binary64 u))) (present (float (ofBits-fits binary64 v) (ofBits-fits binary64 u))))
     (either (eqb k absentKind) (gives-when Bytes illFormed (eqb v 0 && eqb u 0) _ (λ t. gives-pure Bytes none absent))
     (gives-fail Bytes illFormed)))
 
@@ -124,27 +109,22 @@ coordinate-gives : Gives Bytes coordinate (Opt FineUnit)
 unfolding coordinate
 coordinate-gives = bind (num-gives 1) (λ k hk. bind (num-gives 8) (λ v hv. bind (num-gives 8) (λ u hu. kind-gives k v u)))
 
-present-gives : (x : Option Unit) → Opt FineUnit x → Gives Bytes (P.present illFormed x) FineUnit
-present-gives none h = gives-fail Bytes illFormed
-present-gives (some u) (present h) = gives-pure Bytes u h
-
 point-gives : Gives Bytes point FinePoint
 unfolding point
 point-gives =
-    bind (bind coordinate-gives present-gives)
-    (λ x hx. bind (bind coordinate-gives present-gives)
+    bind (bind coordinate-gives (gives-present Bytes illFormed))
+    (λ x hx. bind (bind coordinate-gives (gives-present Bytes illFormed))
     (λ y hy. gives-pure Bytes _ (record { x = hx; y = hy })))
 
--- absent, or not: only the form is checked
-spacing-gives : Gives Bytes spacing Any
-unfolding spacing spacingOf Any
-spacing-gives = bind coordinate-gives (λ x hx. bind coordinate-gives (λ y hy. go x y))
+spacing-gives : Gives Bytes spacing (Opt FinePoint)
+unfolding spacing spacingOf
+spacing-gives = bind coordinate-gives (λ x hx. bind coordinate-gives (λ y hy. go x y hx hy))
   where
-    go : (x y : Option Unit) → Gives Bytes (spacingOf x y) (λ s. T true)
-    go none none = gives-pure Bytes none tt
-    go none (some y) = gives-fail Bytes illFormed
-    go (some x) none = gives-fail Bytes illFormed
-    go (some x) (some y) = gives-pure Bytes _ tt
+    go : (x y : Option Unit) → Opt FineUnit x → Opt FineUnit y → Gives Bytes (spacingOf x y) (Opt FinePoint)
+    go none none h k = gives-pure Bytes none absent
+    go none (some y) h k = gives-fail Bytes illFormed
+    go (some x) none h k = gives-fail Bytes illFormed
+    go (some x) (some y) (present h) (present k) = gives-pure Bytes _ (present (record { x = h; y = k }))
 
 -- ---- blocks
 
@@ -165,17 +145,14 @@ shape-gives =
     bind (num-gives 2)
     (λ l hl. bind (num-gives 2)
     (λ t ht. bind (counted-gives point point-gives)
-    (λ ps hp. gives-pure Bytes _ (record { points = hp }))))
+    (λ ps hp. gives-pure Bytes _ (record { layer = hl; datatype = ht; points = hp }))))
 
-path-type-gives : Gives Bytes pathTypeForm (Opt (λ n. n ≤ 2))
+path-type-gives : Gives Bytes pathTypeForm (Opt (λ n. n ≤ maxPathType))
 unfolding pathTypeForm
 path-type-gives =
     bind (num-gives 1)
     (λ b hb. either (eqb b 255) (gives-pure Bytes none absent)
-    (gives-when Bytes illFormed (leb b maxPathType) (pure (some b)) (λ t. gives-pure Bytes (some b) (present (up-to-two b (leb→le b maxPathType t))))))
-  where
-    up-to-two : (b : ℕ) → b ≤ maxPathType → b ≤ 2
-    up-to-two b h = omega arith
+    (gives-when Bytes illFormed (leb b maxPathType) (pure (some b)) (λ t. gives-pure Bytes (some b) (present (leb→le b maxPathType t)))))
 
 path-gives : Gives Bytes pathForm FinePath
 unfolding pathForm
@@ -187,7 +164,7 @@ path-gives =
     (λ w hw. bind coordinate-gives
     (λ b hb. bind coordinate-gives
     (λ e he. bind (counted-gives point point-gives)
-    (λ ps hp. gives-pure Bytes _ (record { pathType = hk; width = hw; begin = hb; end = he; points = hp }))))))))
+    (λ ps hp. gives-pure Bytes _ (record { layer = hl; datatype = ht; pathType = hk; width = hw; begin = hb; end = he; points = hp }))))))))
 
 text-gives : Gives Bytes textForm FineText
 unfolding textForm
@@ -201,7 +178,7 @@ text-gives =
     (λ m hm. bind double-gives
     (λ a ha. bind point-gives
     (λ o ho. bind string-gives
-    (λ s hs. gives-pure Bytes _ (record { texttype = ht; vertical = hv; horizontal = hh; magnification = hm; degrees = ha; origin = ho; string = hs }))))))))))
+    (λ s hs. gives-pure Bytes _ (record { layer = hl; texttype = ht; vertical = hv; horizontal = hh; magnification = hm; degrees = ha; origin = ho; string = hs }))))))))))
 
 reference-gives : Gives Bytes referenceForm FineReference
 unfolding referenceForm
@@ -217,7 +194,18 @@ reference-gives =
     (λ co hco. bind point-gives
     (λ o ho. bind spacing-gives
     (λ sc hsc. bind spacing-gives
-    (λ sr hsr. gives-pure Bytes _ (record { name = hn; magnification = hm; degrees = ha; origin = ho }))))))))))))
+    (λ sr hsr. gives-pure Bytes _ (record {
+      name = hn;
+      columns = hc;
+      rows = hw;
+      magnification = hm;
+      degrees = ha;
+      sine = hsi;
+      cosine = hco;
+      origin = ho;
+      columnSpacing = hsc;
+      rowSpacing = hsr;
+    }))))))))))))
 
 body-gives : (k : ℕ) → Gives Bytes (bodyForm k) FineBody
 unfolding bodyForm

@@ -3,3 +3,4 @@ pub mod Form
 pub mod Element
 pub mod Blocks
 pub mod Cell
+pub mod Encode

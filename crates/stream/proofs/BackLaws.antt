@@ -8,23 +8,25 @@ use Rattle.parsing.specs.Parse.{given, accepted}
 use Rattle.stream.specs.Record.{Rec, Run, streamBytes}
 use Rattle.stream.specs.Structure.{Structure}
 use Rattle.stream.specs.Records.{structureRecords}
-use Rattle.stream.specs.Read.{structure, closed, readStructure, structureOf}
+use Rattle.stream.specs.Read.{Limits, unlimited, structure, closed, readStructure, structureOf}
 use Rattle.stream.proofs.Fit.{All, done, more, FitStructure}
 use Rattle.stream.proofs.RecordLaws.{Good, Length, good-length, runOf-back, stream-bytes}
+use Rattle.stream.proofs.Admitted.{AdmittedStructure, structure-free}
 use Rattle.stream.proofs.ReadLaws.{structure-back}
 use Rattle.stream.proofs.GoodLaws.{good-structure}
 use Rattle.stream.proofs.BytesLaws.{lengths, stream-length}
 
 -- ---- reading back
 
-pub readStructure-back : (s : Structure) → FitStructure s → readStructure (streamBytes (structureRecords s)) ≡ given s
+-- by a reader whose limits admit the structure's records
+pub readStructure-back : (limits : Limits) (s : Structure) → AdmittedStructure limits s → FitStructure s → readStructure limits (streamBytes (structureRecords s)) ≡ given s
 unfolding readStructure
-readStructure-back s h =
-    ap (λ (u : Run). closed (u .rest) (structure (u .records))) (runOf-back (structureRecords s) (good-structure s h)) ∙ ap (closed []) (structure-back s h)
+readStructure-back limits s a h =
+    ap (λ (u : Run). closed (u .rest) (structure limits (u .records))) (runOf-back (structureRecords s) (good-structure s h)) ∙ ap (closed []) (structure-back limits s a h)
 
 pub structureOf-back : (s : Structure) → FitStructure s → structureOf (streamBytes (structureRecords s)) ≡ some s
 unfolding structureOf
-structureOf-back s h = ap accepted (readStructure-back s h)
+structureOf-back s h = ap accepted (readStructure-back unlimited s (structure-free s) h)
 
 -- each byte of a structure that fits is a byte
 pub structure-bytewise : (s : Structure) → FitStructure s → Bytes (streamBytes (structureRecords s))

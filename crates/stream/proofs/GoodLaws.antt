@@ -13,14 +13,13 @@ use mir.Val.{ofZ}
 use mir.Syntax.{w32}
 use Rattle.big_endian.specs.Big.{Bytes, bytesOf}
 use Rattle.big_endian.proofs.BigLaws.{length-bytesOf}
-use Rattle.big_endian.proofs.BytesLaws.{bytes-nil, bytes-append, bytes-bytesOf}
+use Rattle.big_endian.proofs.BytesLaws.{bytes-nil, bytes-append, bytes-bytesOf, bytes-joined, length-joined}
 use Rattle.units.specs.Point.{Point}
 use Rattle.stream.specs.Record.{Rec, BOUNDARY, NODE, DATATYPE, NODETYPE, noData, twoByte, eightByteReal, asciiString, listed, manual, ofManual}
 use Rattle.stream.specs.Structure.{Property, Strans, Shape, SaidBody, Said, Structure}
 use Rattle.stream.specs.Structure as S
-use Rattle.stream.specs.Records.{longBytes, realRecord, stringRecord, wordsBytes, joined, pointBytes, xyRecord, colrowRecord, stampsRecord, cornersOf, opt, stransRecords, shapeRecords, pathRecords, textRecords, srefRecords, arefRecords, bodyRecords, tailRecords, elementsRecords, structureRecords}
+use Rattle.stream.specs.Records.{longBytes, realRecord, stringRecord, wordsBytes, pointBytes, xyRecord, colrowRecord, stampsRecord, cornersOf, opt, stransRecords, shapeRecords, pathRecords, textRecords, srefRecords, arefRecords, bodyRecords, tailRecords, elementsRecords, structureRecords}
 use Rattle.stream.proofs.RecordLaws.{Good}
-use Rattle.stream.proofs.ReadLaws.{length-joined}
 use Rattle.stream.proofs.Fit.{All, done, more, Opt, present, Even, Real, FitProperty, FitStrans, FitShape, FitBody, FitElement, FitStructure}
 
 -- ---- by the data
@@ -50,10 +49,6 @@ good-real c b t h =
 good-string : (c : ℕ) (s : List ℕ) → (T (eqb (length s % 2) 0) → T (listed manual c asciiString (length s))) → Even s → Good (stringRecord c s)
 unfolding ofManual
 good-string c s t h = record { manual = t (h .even); even = h .even; short = h .short; bytes = h .bytes }
-
-bytes-joined : {A : Type 0} (f : A → List ℕ) → ((a : A) → Bytes (f a)) → (s : List A) → Bytes (joined f s)
-bytes-joined f h [] = bytes-nil
-bytes-joined f h (a ∷ s) = bytes-append (f a) (joined f s) (h a) (bytes-joined f h s)
 
 bytes-point : (p : Point ℤ) → Bytes (pointBytes p)
 bytes-point p = bytes-append (longBytes (p .x)) (longBytes (p .y)) (bytes-bytesOf 4 (ofZ w32 (p .x))) (bytes-bytesOf 4 (ofZ w32 (p .y)))

@@ -74,7 +74,7 @@ arefDrawn e = record {
 }
 
 -- an array's only instance, at its first point
-abbrev pub onlyInstance : Aref Transform → Sref Transform
+abbrev pub onlyInstance : {T : Type 0} → Aref T → Sref T
 onlyInstance e = record { name = e .name; transform = e .transform; origin = e .origin }
 
 -- an AREF of 1 × 1 draws what an SREF at its first point does

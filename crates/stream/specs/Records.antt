@@ -6,7 +6,7 @@ use Prim.Native.Nat.{ℕ}
 use lib.IntN.{ℤ}
 use mir.Val.{ofZ}
 use mir.Syntax.{w32}
-use Rattle.big_endian.specs.Big.{bytesOf}
+use Rattle.big_endian.specs.Big.{bytesOf, joined}
 use Rattle.units.specs.Point.{Point, endpoint}
 use Rattle.stream.specs.Record.{Rec, BGNSTR, STRNAME, ENDSTR, BOUNDARY, PATH, SREF, AREF, TEXT, LAYER, DATATYPE, WIDTH, XY, ENDEL, SNAME, COLROW, NODE, TEXTTYPE, PRESENTATION, STRING, STRANS, MAG, ANGLE, PATHTYPE, NODETYPE, PROPATTR, PROPVALUE, BGNEXTN, ENDEXTN, noData, bitArray, twoByte, fourByte, eightByteReal, asciiString, streamBytes}
 use Rattle.stream.specs.Structure.{Property, Strans, Shape, Path, Text, Sref, Aref, boundary, path, text, node, sref, aref, SaidBody, Said, Structure}
@@ -35,11 +35,6 @@ realRecord c b = record { code = c; dataType = eightByteReal; content = b }
 -- a string that is even already
 abbrev pub stringRecord : ℕ → List ℕ → Rec
 stringRecord c s = record { code = c; dataType = asciiString; content = s }
-
--- the bytes of each in turn
-abbrev pub joined : {A : Type 0} → (A → List ℕ) → List A → List ℕ
-joined f [] = []
-joined f (a ∷ s) = f a ++ joined f s
 
 abbrev pub wordsBytes : List ℕ → List ℕ
 wordsBytes vs = joined (bytesOf 2) vs

@@ -11,18 +11,18 @@ use lib.Ieee.Scale.{finite}
 use Rattle.refusal.specs.declared.Refusal.the-variants as R
 use Rattle.big_endian.specs.Big.{bytesOf}
 use Rattle.big_endian.proofs.BufferLaws.{nothing-at}
+use Rattle.binary64.specs.Value.{zero64, one64}
 use Rattle.gds_format.specs.declared.Encoding.{Encoding}
 use Rattle.gds_format.specs.declared.Encoding.the-variants as E
 use Rattle.gds_format.specs.Real8.{encoding, bytesOfEncoding, real8}
 use Rattle.conversion.specs.Made.{pure, need, _>>=_, _>>_}
-use Rattle.conversion.specs.Convert.{zero64}
 use Rattle.conversion.proofs.MadeLaws.{Yields, no-yield, made-yields, steps, checked}
 use Rattle.stream.specs.Structure as D
 use Rattle.stream.specs.Record.{Rec, STRANS, MAG, ANGLE, recordBytes, streamBytes}
 use Rattle.stream.specs.Records.{bitsRecord, realRecord, opt, stransBits, stransRecords}
 use Rattle.stream.proofs.AppendLaws.{strans-append}
 use Rattle.stream.proofs.BytesLaws.{stream-append}
-use Rattle.cell.specs.Write.{isSome, one64, encodable, writeReal, writeMagnification, writeAngle, stransOf, writeTransform}
+use Rattle.cell.specs.Write.{isSome, encodable, writeReal, writeMagnification, writeAngle, stransOf, writeTransform}
 use Rattle.records.specs.Bytes.{Placed, Recorded, optBytes, optionOf}
 use Rattle.records.proofs.RecordLaws.{placed, then-placed, then-rest, then-opt, length-record}
 use Rattle.transform.specs.declared.Strans.{Strans}

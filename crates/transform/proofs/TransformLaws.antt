@@ -9,16 +9,16 @@ use lib.Ieee.Scale.{finite}
 use Rattle.refusal.specs.declared.Refusal.{Refusal}
 use Rattle.refusal.specs.declared.Refusal.the-variants as R
 use Rattle.big_endian.specs.Big.{bytesOf}
+use Rattle.binary64.specs.Value.{zero64, one64}
 use Rattle.gds_format.specs.declared.Encoding.{Encoding}
 use Rattle.gds_format.specs.declared.Encoding.the-variants as E
 use Rattle.gds_format.specs.declared.GdsReal8Error.{GdsReal8Error}
 use Rattle.gds_format.specs.declared.Real8.{Real8}
 use Rattle.gds_format.specs.Real8.{encoding, bytesOfEncoding, real8}
 use Rattle.conversion.specs.Made.{Made, refused, pure, need, _>>=_, _>>_}
-use Rattle.conversion.specs.Convert.{zero64}
 use Rattle.conversion.proofs.MadeLaws.{need-on, need-off, pure-then, refused-then}
 use Rattle.stream.specs.Structure as D
-use Rattle.cell.specs.Write.{one64, encodable, writeReal, writeMagnification, writeAngle, stransOf, writeTransform}
+use Rattle.cell.specs.Write.{encodable, writeReal, writeMagnification, writeAngle, stransOf, writeTransform}
 use Rattle.transform.specs.Strans.{withAngle}
 
 -- ---- a real, by the encoder's answer

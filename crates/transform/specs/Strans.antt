@@ -5,12 +5,12 @@ use mathlib.Core.List.{List, []}
 use Prim.Native.Nat.{ℕ, _+_}
 use lib.Ieee.{Float, eq}
 use Rattle.big_endian.specs.Big.{bytesOf}
+use Rattle.binary64.specs.Value.{zero64, one64}
 use Rattle.conversion.specs.Made.{Made, refused, pure, _>>=_}
-use Rattle.conversion.specs.Convert.{zero64}
 use Rattle.stream.specs.Structure as D
 use Rattle.stream.specs.Record.{streamBytes}
 use Rattle.stream.specs.Records.{stransRecords}
-use Rattle.cell.specs.Write.{one64, stransOf}
+use Rattle.cell.specs.Write.{stransOf}
 use Rattle.records.specs.Bytes.{optionOf}
 use Rattle.transform.specs.declared.Real.{Real}
 use Rattle.transform.specs.declared.Real.the-variants as R

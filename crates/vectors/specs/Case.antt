@@ -6,8 +6,8 @@ use lib.Dec.{eqb, leb, ltb}
 use lib.ListN.{length, take, drop}
 use lib.Ieee.{Float, binary64, ofBits, toBits}
 use Rattle.big_endian.specs.Big.{bytesOf, numberAt}
+use Rattle.binary64.specs.Value.{zero64}
 use Rattle.refusal.specs.Number.{number}
-use Rattle.conversion.specs.Convert.{zero64}
 use Rattle.conversion.specs.Entry.{greatestFrom, reportBytes}
 use Rattle.stream.specs.Structure.{Structure}
 use Rattle.cell.specs.Cell.{Result, stopped, written, writeCell, structureBytes}

@@ -9,12 +9,12 @@ use lib.Dec.{T, eqb}
 use lib.ListN.{length, length-take, length-drop}
 use lib.Ieee.{Float, lt}
 use borrow.Author.Tests.{eq-eqb, ne-eqb, not-false}
+use Rattle.binary64.specs.Value.{zero64}
 use Rattle.refusal.specs.declared.Refusal.{Refusal}
 use Rattle.conversion.specs.declared.GdsRoundingPolicy.{GdsRoundingPolicy}
 use Rattle.conversion.specs.declared.Entry.{Entry}
 use Rattle.conversion.specs.Entry.{greatestFrom}
 use Rattle.conversion.specs.Fold.{standing}
-use Rattle.conversion.specs.Convert.{zero64}
 use Rattle.sheet.specs.Element.{elementOf}
 use Rattle.sheet.specs.Blocks.{pairCount, blockOf, pairsFit, blocksFrom}
 use Rattle.sheet.specs.Cell.{elementBlocks}

@@ -15,10 +15,10 @@ use Rattle.refusal.specs.declared.Refusal.the-variants as R
 use Rattle.big_endian.specs.Big.{Bytes}
 use Rattle.big_endian.specs.Buffer as B
 use Rattle.big_endian.proofs.BufferLaws.{at-start}
+use Rattle.binary64.specs.Value.{zero64}
 use Rattle.conversion.specs.declared.GdsRoundingPolicy.{GdsRoundingPolicy}
 use Rattle.conversion.specs.declared.Deviation.{Deviation}
 use Rattle.conversion.specs.declared.Entry.{Entry}
-use Rattle.conversion.specs.Convert.{zero64}
 use Rattle.conversion.specs.Entry.{entryOf, reportBytes, greatestFrom}
 use Rattle.sheet.specs.Element.{Head, kindOf, headOf}
 use Rattle.sheet.specs.Blocks.{pairCount, pairsFit, blockOf}

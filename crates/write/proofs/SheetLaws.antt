@@ -10,10 +10,10 @@ use lib.ListN.{length, length-append}
 use lib.Ieee.{Float}
 use lib.Ieee.Positive.{positive}
 use borrow.Author.Tests.{le-leb, lt-leb, ne-eqb, not-true, not-false}
+use Rattle.binary64.specs.Value.{zero64}
 use Rattle.refusal.specs.declared.Refusal.{Refusal}
 use Rattle.refusal.specs.declared.Refusal.the-variants as R
 use Rattle.conversion.specs.declared.GdsRoundingPolicy.{GdsRoundingPolicy}
-use Rattle.conversion.specs.Convert.{zero64}
 use Rattle.conversion.specs.Entry.{greatestFrom}
 use Rattle.sheet.specs.Element.{Head, headOf}
 use Rattle.sheet.specs.Blocks.{pairsFit, blockOf}

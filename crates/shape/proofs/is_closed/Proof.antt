@@ -1,7 +1,7 @@
 -- `shape::is_closed` meets its contract. Assumes nothing.
 use mathlib.Core.Path.{sym, ap, ap₂}
 use mathlib.Core.Bool.{Bool, _&&_}
-use Rattle.cell.specs.Write.{sameInt}
+use Rattle.binary64.specs.Value.{sameInt}
 use Rattle.shape.proofs.PolygonLaws.{same-int, other-int}
 use Rattle.shape.proofs.is_closed.Statement.{statement}
 use Rattle.shape.proofs.is_closed.Tie as tie

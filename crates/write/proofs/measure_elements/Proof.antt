@@ -6,8 +6,8 @@ use native.Mathlib.Omega.{arith}
 use borrow.Author.Needs.{needs}
 use lib.ListN.{length}
 use lib.Ieee.{Float}
+use Rattle.binary64.specs.Value.{zero64}
 use Rattle.conversion.specs.declared.GdsRoundingPolicy.{GdsRoundingPolicy}
-use Rattle.conversion.specs.Convert.{zero64}
 use Rattle.conversion.proofs.DeviationLaws.{zero-is}
 use Rattle.sheet.specs.Cell.{elementBlocks}
 use Rattle.cell.specs.Limits.{maxSheetLength}

@@ -1,0 +1,88 @@
+-- Elements that were read are canonical. Assumes nothing.
+use mathlib.Core.Path.{_≡_, refl, ap, _∙_}
+use mathlib.Core.List.{List, [], _∷_}
+use Prim.Native.Nat.{ℕ, suc, _+_, _≤_, _<_}
+use native.Mathlib.Omega.{arith}
+use borrow.Author.Tests.{le-leb, lt-ltb}
+use lib.ListN.{length}
+use Rattle.refusal.specs.declared.Refusal.the-variants as R
+use Rattle.parsing.specs.All.{All, done, more}
+use Rattle.conversion.specs.Made.{pure, _>>=_}
+use Rattle.conversion.proofs.MadeLaws.{need-on, then-pure}
+use Rattle.sheet.specs.Element as S
+use Rattle.sheet.specs.Blocks.{maxPairs}
+use Rattle.sheet.proofs.Fine.{FineProperty}
+use Rattle.stream.specs.Records.{emptyRecord}
+use Rattle.stream.specs.Strings.{unpadded}
+use Rattle.stream.specs.Structure.{Property, SaidBody, Said}
+use Rattle.stream.specs.Structure as D
+use Rattle.stream.specs.Drawn.{propertiesDrawn}
+use Rattle.stream.proofs.AppendLaws.{codeOf}
+use Rattle.stream.proofs.StringLaws.{padded-unpadded}
+use Rattle.stream.proofs.Admitted.{AdmittedTail, end, next}
+use Rattle.cell.specs.Limits.{maxValueLength}
+use Rattle.cell.specs.Write.{writeProperties, writeElement}
+use Rattle.reading.specs.Limits.{maxProperties, recordLimit, sheetLimits}
+use Rattle.reading.specs.Cell.{propertiesRead}
+use Rattle.reading.proofs.Kept.{KeptBody, KeptProperty, KeptElement}
+use Rattle.reading.proofs.Kept as K
+use Rattle.reading.proofs.RealLaws.{Passes}
+use Rattle.reading.proofs.Canon.{CanonBody, CanonElement}
+use Rattle.reading.proofs.BodyLaws.{need-none, string-fine, boundary-canon, node-canon, path-canon, text-canon}
+use Rattle.reading.proofs.ReferenceLaws.{sref-canon, aref-canon}
+
+body-canon : (w : SaidBody) → KeptBody w → CanonBody w
+body-canon (D.boundary e) (K.boundary h) = boundary-canon e h
+body-canon (D.path e) (K.path h) = path-canon e h
+body-canon (D.text e) (K.text h) = text-canon e h
+body-canon (D.node e) (K.node h) = node-canon e h
+body-canon (D.sref e) (K.sref h) = sref-canon e h
+body-canon (D.aref e) (K.aref h) = aref-canon e h
+
+-- ---- properties
+
+properties-write : (qs : List Property) → All KeptProperty qs → writeProperties (propertiesRead qs) ≡ pure qs
+unfolding writeProperties
+properties-write [] done = refl
+properties-write (q ∷ qs) (more h hs) =
+    need-on _ R.StringLength _ (le-leb (length (unpadded (q .value))) maxValueLength (h .value .short))
+    ∙ then-pure _ (properties-write qs hs) (ap (λ (s : List ℕ). pure (record { attribute = q .attribute; value = s } ∷ qs)) (padded-unpadded (q .value) (h .value .even .even)))
+
+properties-fine : (qs : List Property) → All KeptProperty qs → All FineProperty (propertiesRead qs)
+properties-fine [] done = done
+properties-fine (q ∷ qs) (more h hs) = more (record { attribute = h .attribute; value = string-fine (q .value) (h .value .even) }) (properties-fine qs hs)
+
+properties-count : (qs : List Property) → length (propertiesRead qs) ≡ length qs
+properties-count [] = refl
+properties-count (q ∷ qs) = ap suc (properties-count qs)
+
+tail-admitted : (kind i : ℕ) (qs : List Property) → All KeptProperty qs → i + length qs ≤ maxProperties → AdmittedTail sheetLimits kind i qs
+unfolding recordLimit
+tail-admitted kind i [] done l = end refl
+tail-admitted kind i (q ∷ qs) (more h hs) l =
+    next (need-none _ R.Form (lt-ltb i maxProperties (omega arith))) (need-none _ R.StringLength (le-leb (length (unpadded (q .value))) maxValueLength (h .value .short)))
+    (tail-admitted kind (suc i) qs hs (omega arith))
+
+-- ---- an element
+
+first-passes : (w : SaidBody) (i : ℕ) → suc i < maxPairs → Passes (codeOf w) i (emptyRecord (codeOf w))
+unfolding recordLimit
+first-passes (D.boundary e) i h = need-none _ R.Pairs (lt-ltb (suc i) maxPairs h)
+first-passes (D.path e) i h = need-none _ R.Pairs (lt-ltb (suc i) maxPairs h)
+first-passes (D.text e) i h = need-none _ R.Pairs (lt-ltb (suc i) maxPairs h)
+first-passes (D.node e) i h = need-none _ R.Pairs (lt-ltb (suc i) maxPairs h)
+first-passes (D.sref e) i h = need-none _ R.Pairs (lt-ltb (suc i) maxPairs h)
+first-passes (D.aref e) i h = need-none _ R.Pairs (lt-ltb (suc i) maxPairs h)
+
+pub element-canon : (e : Said) → KeptElement e → CanonElement e
+unfolding writeElement
+element-canon e h =
+    let b = body-canon (e .body) (h .body) in
+    record {
+      put = record { body = b .put; properties = e .properties };
+      writes = then-pure _ (b .writes) (then-pure _ (properties-write (e .properties) (h .properties)) refl);
+      drawn = ap (λ (w : _). record { body = w; properties = propertiesDrawn (e .properties) }) (b .drawn);
+      again = ap (λ (w : S.Body). record { body = w; properties = propertiesRead (e .properties) }) (b .again);
+      admitted = λ i l. record { first = first-passes (b .put) i l; body = b .admitted; steps = b .steps; tail = tail-admitted _ 0 (e .properties) (h .properties) (omega (arith, h .count)) };
+      fine = record { body = b .fine; properties = record { each = properties-fine (e .properties) (h .properties); count = omega (arith, properties-count (e .properties), h .count) } };
+    }
