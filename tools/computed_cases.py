@@ -8,10 +8,12 @@ every element kind, policy, record, report field and refusal number, and an arra
 angle (crates/cases/specs/Cells.antt). The stored cases that end in 21 and 22 are large, so cells
 with shorter buffers stand in for them, with the answer that follows from the stored one. Two cells of
 document 01's rows are written here by hand. So are the streams (crates/cases/specs/Streams.antt), but
-for some of the stored cells; what is read from them is the answer of tools/reading_model.py.
+for some of the stored cells; what is read from them is the answer of tools/reading_model.py, and what
+that is written to the answer of tools/model.py.
 crates/cases/proofs/Open.antt opens every definition of the specs below `cases`."""
 import glob, os, re, struct, sys
 
+import model
 import reading_model
 
 OUT, REPORT = 16384, 8192          # the program's buffers
@@ -423,9 +425,18 @@ def fault_of(fault):
     return {None: "none", NO_RECORD: "some noRecord", NOT_OF_GRAMMAR: "some notOfGrammar", 11: "some (beyond R.ColumnsOrRows)", 30: "some (beyond R.ArrayCorners)"}[fault]
 
 
+def as_number(data):
+    return f"{len(data)} 0x{data.hex() or '0'}"
+
+
 def read_as(data):
+    """Number and block; or the sheet, and the structure that it is written to with d = 1 and nearest."""
     answer = reading_model.read(data)
-    return f"ok {len(answer[1])} 0x{answer[1].hex()}" if answer[0] == "ok" else "no {} {}".format(*answer[1:])
+    if answer[0] == "no":
+        return "no {} {}".format(*answer[1:])
+    canonical, entries, _ = model.write_cell(model.NEAREST, 1.0, answer[1])
+    assert not entries
+    return f"own {as_number(answer[1])}" if canonical == data else f"other {as_number(answer[1])} {as_number(canonical)}"
 
 
 def stream_row(why, data):
@@ -440,7 +451,7 @@ def streams_module(path):
         assert reading_model.grammar_fault(data) == fault, why
     rows = [(why, data) for why, data, _ in by_hand] + sheet_streams()
     stored = sorted((v for v in read_vectors(path) if v.fields[0] == "ok"), key=lambda v: len(v.lines[1]))
-    rows += [(v.name, bytes.fromhex(v.lines[1])) for v in stored if len(v.lines[1]) <= 2 * LARGEST][::8]
+    rows += [(v.name, bytes.fromhex(v.lines[1])) for v in stored if len(v.lines[1]) <= 2 * LARGEST][::16]
     return len(rows), '''-- Streams with what is read from them: made by tools/computed_cases.py. Assumes nothing.
 use mathlib.Core.Option.{Option, none, some}
 use mathlib.Core.List.{List, [], _∷_}
@@ -448,10 +459,11 @@ use Prim.Native.Nat.{ℕ}
 use Rattle.refusal.specs.declared.Refusal.the-variants as R
 use Rattle.stream.specs.Read.{Fault, noRecord, notOfGrammar, beyond}
 
--- what reading to a sheet gives (document 02, request 8): number and block; or the sheet, as one number with its count of bytes
+-- What reading to a sheet gives (document 02, request 8): number and block; or the sheet, as one number with its count of bytes, and the canonical structure, which is the stream itself (`own`) or another.
 pub data Answer : Type 0 where
   no : ℕ → ℕ → Answer
-  ok : ℕ → ℕ → Answer
+  own : ℕ → ℕ → Answer
+  other : ℕ → ℕ → ℕ → ℕ → Answer
 
 -- a stream, as one number with its count of bytes; the fault that the grammar alone finds in it, if any, first in byte order (document 01, "What a structure draws"); and what reading to a sheet gives
 pub record Stream : Type 0 where

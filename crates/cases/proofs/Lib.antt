@@ -3,3 +3,5 @@ pub mod Open
 pub mod Rows
 pub mod CellsPass
 pub mod StreamsPass
+pub mod LimitsPass
+pub mod ReadPass

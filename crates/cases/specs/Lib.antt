@@ -2,3 +2,5 @@
 pub mod Case
 pub mod Cells
 pub mod Streams
+pub mod Limits
+pub mod Read

@@ -1,9 +1,8 @@
 -- The distance of two whole numbers of one sign, and of multiples. Assumes nothing.
-use mathlib.Core.Path.{_≡_, refl, sym, ap, ap₂, _∙_, subst}
+use mathlib.Core.Path.{_≡_, sym, ap, _∙_, subst}
 use mathlib.Core.Bool.{Bool, true, false, not, cond}
 use Prim.Native.Nat.{ℕ, zero, suc, _+_, _-_, _*_, _/_, _%_, _^_, _≤_, _<_}
-use native.Mathlib.Nat.{zero-mul, mul-assoc, mul-comm, mul-left-comm, mul-right-comm, add-mul, zero-add, add-zero, div-add-mod', mod-lt, mul-pos, mul-le-mul-right, zero-lt-suc}
-use native.Mathlib.Decide.{decLe}
+use native.Mathlib.Nat.{mul-assoc, mul-right-comm, div-add-mod', mod-lt, mul-pos, mul-le-mul-right, zero-lt-suc}
 use native.Mathlib.Omega.{arith}
 use lib.Dec.{ltb, T, ltb→lt, nltb→le}
 use lib.IntN.{ℤ, pos, negsuc, negℤ, natAbs, subℕ, _+ℤ_, _-ℤ_, _*ℤ_, negℤ-negℤ}

@@ -2,7 +2,7 @@
 -- are converted by doubles that are whole numbers. Assumes nothing.
 use mathlib.Core.Path.{_≡_, refl, sym, ap, ap₂, _∙_}
 use mathlib.Core.Bool.{true}
-use mathlib.Core.Option.{Option, none, some}
+use mathlib.Core.Option.{some}
 use Prim.Native.Nat.{ℕ, _+_, _*_, _^_, _≤_, zero-le}
 use native.Mathlib.Nat.{le-trans, le-of-eq, mul-one, mul-le-mul-right, mul-le-mul-left}
 use native.Mathlib.Omega.{arith}
@@ -19,7 +19,7 @@ use Rattle.units.specs.Point.{Point, endpoint}
 use Rattle.units.specs.Integer.{integer, integerPoint}
 use Rattle.conversion.specs.declared.GdsRoundingPolicy.{GdsRoundingPolicy}
 use Rattle.conversion.specs.declared.GdsRoundingPolicy.the-variants.{Nearest}
-use Rattle.conversion.specs.Made.{Made, made, pure, need, _>>=_, _>>_}
+use Rattle.conversion.specs.Made.{made, pure, _>>_}
 use Rattle.conversion.specs.Convert.{Spot, rounded, inRange, ranged, gridValue, databaseValue, difference, abs, deviations, convertPhysical, physicalValue, convertBy, convertUnit, arrayEndpoint}
 use Rattle.conversion.specs.Points.{writePoint, writeLength}
 use Rattle.conversion.specs.Array.{physicalPoint, physicalSpacing, physicalAt, turned, endpointPhysical, writePhysical, writeEndpoint, convertArray}

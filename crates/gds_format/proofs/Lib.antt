@@ -6,3 +6,4 @@ pub mod Unique
 pub mod Real8Laws
 pub mod DecodeLaws
 pub mod Rows
+pub mod DecodeRows

@@ -1,9 +1,9 @@
 -- Shapes, paths and texts that were read are canonical. Assumes nothing.
 use mathlib.Core.Path.{_≡_, refl, ap, ap₂, _∙_}
-use mathlib.Core.Bool.{Bool, true, false, cond}
+use mathlib.Core.Bool.{Bool, true}
 use mathlib.Core.Option.{Option, none, some, Option·some-injective, Option·none-ne-some}
 use mathlib.Core.List.{List, [], _∷_}
-use Prim.Native.Nat.{ℕ, suc, _+_, _*_, _/_, _%_, _≤_, _<_}
+use Prim.Native.Nat.{ℕ, suc, _+_, _*_, _/_, _%_, _≤_}
 use native.Mathlib.Nat.{le-trans}
 use native.Mathlib.Omega.{arith}
 use borrow.Author.Tests.{le-leb}
@@ -20,7 +20,7 @@ use Rattle.parsing.specs.All.{All, done, more, Opt, absent, present}
 use Rattle.units.specs.Point.{Point}
 use Rattle.units.specs.Integer.{integerPoint}
 use Rattle.conversion.specs.declared.GdsRoundingPolicy.the-variants.{Nearest}
-use Rattle.conversion.specs.Made.{Made, pure, need, _>>=_, _>>_}
+use Rattle.conversion.specs.Made.{pure, need, _>>_}
 use Rattle.conversion.specs.Points.{writePoints, writeLength}
 use Rattle.conversion.proofs.MadeLaws.{need-on, then-pure}
 use Rattle.conversion.proofs.WholeLaws.{point-one, length-one}
@@ -28,7 +28,7 @@ use Rattle.sheet.specs.Element as S
 use Rattle.sheet.specs.Element.{maxPathType}
 use Rattle.sheet.proofs.Fine.{FineString, Counted, FineUnit, FinePoint, FineShape, integer}
 use Rattle.sheet.proofs.Fine as F
-use Rattle.stream.specs.Record.{Rec, BOUNDARY, PATH, TEXT, NODE, LAYER, DATATYPE, NODETYPE, PRESENTATION, XY, STRING, PATHTYPE, WIDTH, BGNEXTN, ENDEXTN}
+use Rattle.stream.specs.Record.{BOUNDARY, PATH, TEXT, NODE, LAYER, DATATYPE, NODETYPE, PRESENTATION, STRING, PATHTYPE, WIDTH, BGNEXTN, ENDEXTN}
 use Rattle.stream.specs.Records.{wordRecord, bitsRecord, longRecord, stringRecord, xyRecord, opt, shapeRecords, pathRecords, textRecords}
 use Rattle.stream.specs.Strings.{unpadded, trimmed}
 use Rattle.stream.specs.Structure.{Strans, Shape, Path, Text}

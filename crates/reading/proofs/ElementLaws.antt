@@ -7,7 +7,7 @@ use borrow.Author.Tests.{le-leb, lt-ltb}
 use lib.ListN.{length}
 use Rattle.refusal.specs.declared.Refusal.the-variants as R
 use Rattle.parsing.specs.All.{All, done, more}
-use Rattle.conversion.specs.Made.{pure, _>>=_}
+use Rattle.conversion.specs.Made.{pure}
 use Rattle.conversion.proofs.MadeLaws.{need-on, then-pure}
 use Rattle.sheet.specs.Element as S
 use Rattle.sheet.specs.Blocks.{maxPairs}

@@ -4,11 +4,9 @@ use mathlib.Core.Option.{Option, none, some}
 use mathlib.Core.List.{List}
 use Prim.Native.Nat.{ℕ, _≤_, _<_}
 use lib.Dec.{T}
-use lib.IntN.{ℤ}
 use lib.ListN.{length}
 use lib.Ieee.{Float}
 use Rattle.parsing.specs.All.{All, Opt}
-use Rattle.units.specs.Point.{Point}
 use Rattle.gds_format.specs.Decode.{doubleOf}
 use Rattle.conversion.specs.Made.{Made}
 use Rattle.conversion.proofs.WholeLaws.{InRange}

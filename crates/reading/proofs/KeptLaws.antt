@@ -11,12 +11,12 @@ use lib.IntN.{ℤ, pos, _+ℤ_, _-ℤ_, _*ℤ_, +ℤ-comm, -ℤ-+ℤ-cancel}
 use Rattle.big_endian.specs.Big.{Bytes, number}
 use Rattle.refusal.specs.declared.Refusal.{Refusal}
 use Rattle.refusal.specs.declared.Refusal.the-variants as R
-use Rattle.parsing.specs.Parse.{Part, ill, part, Parse, pure, follow, map, present, when, refused, given, _>>=_}
+use Rattle.parsing.specs.Parse.{Part, ill, part, Parse, pure, follow, map, present, given, _>>=_}
 use Rattle.parsing.specs.All.{All, done, more, Opt, absent}
 use Rattle.parsing.specs.All as A
 use Rattle.parsing.proofs.ParseLaws.{no-part, Gives, gives-pure, gives-fail, gives-when, gives-cond, gives-present, gives-bind, gives-map, gives-weaker}
 use Rattle.units.specs.Point.{Point, endpoint}
-use Rattle.conversion.specs.Made.{Made, Done, need}
+use Rattle.conversion.specs.Made.{Made, Done}
 use Rattle.conversion.specs.Convert.{inRange}
 use Rattle.conversion.proofs.WholeLaws.{InRange}
 use Rattle.sheet.specs.Blocks.{maxPairs}

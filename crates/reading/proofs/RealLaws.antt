@@ -3,8 +3,8 @@ use mathlib.Core.Path.{_≡_, refl, sym, ap, ap₂, _∙_, subst}
 use mathlib.Core.Logic.{inl, inr}
 use mathlib.Core.Bool.{Bool, true, false, not, _||_, cond}
 use mathlib.Core.Option.{Option, none, some, Option·some-injective, Option·none-ne-some, Option·some-ne-none}
-use mathlib.Core.List.{List, [], _∷_}
-use Prim.Native.Nat.{ℕ, _^_, _≤_, _<_}
+use mathlib.Core.List.{List}
+use Prim.Native.Nat.{ℕ, _^_, _≤_}
 use native.Mathlib.Nat.{lt-irrefl, lt-of-lt-of-le}
 use native.Mathlib.Omega.{arith}
 use lib.Dec.{T}
@@ -170,19 +170,20 @@ angle-rewritten = rewritten writeAngle zero64 (pos 0) zero-fits own-zero zero-sc
 
 -- ---- transforms
 
-strans-worth : (r : Bool) (m a : Option (List ℕ)) → transformOf (stransOf r m a) ≡ record { reflection = r; magnification = realOf one m; degrees = realOf (pos 0) a }
+-- what a transform is worth or read as, by its parts: a STRANS that is left out has none
+strans-by : {X : Type 0} (f : Option Strans → X) (g : Bool → Option (List ℕ) → Option (List ℕ) → X) → f none ≡ g false none none
+    → ((r : Bool) (m a : Option (List ℕ)) → f (some (record { reflection = r; magnification = m; angle = a })) ≡ g r m a) → (r : Bool) (m a : Option (List ℕ)) → f (stransOf r m a) ≡ g r m a
 unfolding stransOf
-strans-worth true m a = refl
-strans-worth false (some m) a = refl
-strans-worth false none (some a) = refl
-strans-worth false none none = refl
+strans-by f g n s true m a = s true m a
+strans-by f g n s false (some m) a = s false (some m) a
+strans-by f g n s false none (some a) = s false none (some a)
+strans-by f g n s false none none = n
+
+strans-worth : (r : Bool) (m a : Option (List ℕ)) → transformOf (stransOf r m a) ≡ record { reflection = r; magnification = realOf one m; degrees = realOf (pos 0) a }
+strans-worth = strans-by transformOf (λ r m a. record { reflection = r; magnification = realOf one m; degrees = realOf (pos 0) a }) refl (λ r m a. refl)
 
 strans-placing : (r : Bool) (m a : Option (List ℕ)) → placing (stransOf r m a) ≡ record { reflection = r; magnification = realRead one64 m; degrees = realRead zero64 a }
-unfolding stransOf
-strans-placing true m a = refl
-strans-placing false (some m) a = refl
-strans-placing false none (some a) = refl
-strans-placing false none none = refl
+strans-placing = strans-by placing (λ r m a. record { reflection = r; magnification = realRead one64 m; degrees = realRead zero64 a }) refl (λ r m a. refl)
 
 -- a record that may be missing, in front of others
 pub opt-all : {A : Type 0} {P : Rec → Type 0} (f : A → Rec) (x : Option A) (rs : List Rec) → ((a : A) → x ≡ some a → P (f a)) → All P rs → All P (opt f x rs)

@@ -17,7 +17,7 @@ use Rattle.parsing.specs.All.{All, done, more, absent, present}
 use Rattle.units.specs.Point.{Point}
 use Rattle.units.specs.Integer.{integerPoint}
 use Rattle.conversion.specs.declared.GdsRoundingPolicy.the-variants.{Nearest}
-use Rattle.conversion.specs.Made.{Made, pure, need, _>>=_, _>>_}
+use Rattle.conversion.specs.Made.{pure, _>>=_, _>>_}
 use Rattle.conversion.specs.Convert.{inRange}
 use Rattle.conversion.proofs.MadeLaws.{need-on, then-pure}
 use Rattle.conversion.proofs.WholeLaws.{point-one, InRange, Few, EndInRange, array-exact}
@@ -25,9 +25,9 @@ use Rattle.sheet.specs.Element as S
 use Rattle.sheet.proofs.Fine.{FineReference, FineBody}
 use Rattle.sheet.proofs.Fine as F
 use Rattle.stream.specs.Record.{SREF, AREF, SNAME}
-use Rattle.stream.specs.Records.{stringRecord, xyRecord, colrowRecord, cornersOf, endpointOf, srefRecords, arefRecords}
+use Rattle.stream.specs.Records.{stringRecord, colrowRecord, cornersOf, endpointOf, srefRecords, arefRecords}
 use Rattle.stream.specs.Strings.{unpadded, trimmed}
-use Rattle.stream.specs.Structure.{Strans, Sref, Aref, SaidBody}
+use Rattle.stream.specs.Structure.{Strans, Sref, Aref}
 use Rattle.stream.specs.Structure as D
 use Rattle.stream.specs.Drawn.{arefDrawn, onlyInstance, referenceDrawn}
 use Rattle.stream.proofs.Fit.{Word, Long, FitPoint}

@@ -9,7 +9,6 @@ use borrow.Author.Tests.{le-leb}
 use lib.Dec.{T, leb, leb→le}
 use lib.ListN.{length}
 use lib.Ieee.Bits.{is-true as on}
-use Rattle.big_endian.specs.Big.{Bytes}
 use Rattle.binary64.specs.Value.{one64}
 use Rattle.refusal.specs.declared.Refusal.the-variants as R
 use Rattle.parsing.specs.Parse.{Outcome, refused, given}
@@ -30,7 +29,7 @@ use Rattle.stream.specs.Structure.{Said, Structure}
 use Rattle.stream.specs.Drawn.{elementsDrawn, drawnOf}
 use Rattle.stream.specs.Read.{Stop, readStructure}
 use Rattle.stream.proofs.Fit.{FitElement, FitStructure}
-use Rattle.stream.proofs.StringLaws.{unpadded-short, padded-unpadded}
+use Rattle.stream.proofs.StringLaws.{padded-unpadded}
 use Rattle.stream.proofs.Admitted.{AdmittedElements, noElement, oneElement, AdmittedStructure}
 use Rattle.stream.proofs.ReadLaws.{stamps-back}
 use Rattle.stream.proofs.BackLaws.{readStructure-back}

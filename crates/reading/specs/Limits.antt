@@ -13,7 +13,7 @@ use Rattle.refusal.specs.declared.Refusal.{Refusal}
 use Rattle.refusal.specs.declared.Refusal.the-variants as R
 use Rattle.units.specs.Point.{Point}
 use Rattle.gds_format.specs.Decode.{doubleOf}
-use Rattle.conversion.specs.Made.{Made, Done, refused, made, pure, need, _>>=_, _>>_}
+use Rattle.conversion.specs.Made.{Made, Done, refused, made, pure, need, _>>_}
 use Rattle.conversion.specs.Convert.{inRange}
 use Rattle.sheet.specs.Blocks.{maxPairs}
 use Rattle.sheet.specs.Element.{maxPathType}

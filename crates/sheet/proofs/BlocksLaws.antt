@@ -1,17 +1,17 @@
 -- The sheet of any blocks has well-formed pairs, and its blocks are those. Assumes nothing.
-use mathlib.Core.Path.{_≡_, refl, sym, ap, ap₂, _∙_, subst}
-use mathlib.Core.Bool.{Bool, true, false, _&&_}
+use mathlib.Core.Path.{_≡_, refl, sym, ap, ap₂, _∙_}
+use mathlib.Core.Bool.{Bool, true, _&&_}
 use mathlib.Core.List.{List, [], _∷_, _++_, append-assoc, append-nil}
-use Prim.Native.Nat.{ℕ, zero, suc, _+_, _*_, _^_, _≤_, _<_}
+use Prim.Native.Nat.{ℕ, suc, _+_, _*_, _^_, _≤_, _<_}
 use native.Mathlib.Omega.{arith}
 use borrow.Author.Tests.{le-leb, eq-eqb}
-use lib.Dec.{leb, eqb}
+use lib.Dec.{leb}
 use lib.ListN.{length, take, drop, length-append}
 use lib.Seq.{take-at, drop-at}
 use Rattle.big_endian.specs.Big.{number, bytesOf, numberAt, joined}
 use Rattle.big_endian.proofs.BigLaws.{length-bytesOf, number-back}
-use Rattle.parsing.specs.All.{All, done, more}
-use Rattle.sheet.specs.Blocks.{maxPairs, wordAt, pairCount, offsetOf, lengthOf, blockOf, chained, pairsFit, blocksFrom}
+use Rattle.parsing.specs.All.{All, more}
+use Rattle.sheet.specs.Blocks.{maxPairs, pairCount, offsetOf, lengthOf, blockOf, chained, pairsFit, blocksFrom}
 use Rattle.sheet.specs.Encode.{pairsBytes, blocksSheet}
 
 abbrev whole : List (List ℕ) → List ℕ

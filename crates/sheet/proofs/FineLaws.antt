@@ -3,13 +3,11 @@ use mathlib.Core.Path.{_≡_, sym, _∙_, subst}
 use mathlib.Core.Bool.{Bool, true, false, _&&_, cond}
 use mathlib.Core.Option.{Option, none, some}
 use mathlib.Core.List.{List}
-use Prim.Native.Nat.{ℕ, _+_, _^_, _≤_, _<_}
-use native.Mathlib.Nat.{lt-of-not-le}
-use native.Mathlib.Decide.{decLe}
+use Prim.Native.Nat.{ℕ, _^_, _≤_, _<_}
 use native.Mathlib.Omega.{arith}
-use lib.Dec.{T, leb, ltb, eqb, leb→le, ltb→lt, lit<}
-use lib.ListN.{length, take, drop, length-take, List·getD-eq-default}
-use lib.Seq.{getD-take, getD-drop, length-take-le}
+use lib.Dec.{T, leb, ltb, eqb, leb→le, ltb→lt}
+use lib.ListN.{length, take, drop}
+use lib.Seq.{length-take-le}
 use lib.Ieee.{Float, fits, binary64, ofBits}
 use lib.Ieee.Bits.{ofBits-fits}
 use mir.Val.{toZ, Fits}
@@ -19,7 +17,7 @@ use Rattle.big_endian.specs.Big.{Bytes, number}
 use Rattle.big_endian.proofs.BigLaws.{number-lt}
 use Rattle.big_endian.proofs.BytesLaws.{take-bytes, drop-bytes}
 use Rattle.parsing.specs.Parse.{ill, part, illFormed, pure, times, _>>=_}
-use Rattle.parsing.specs.All.{All, Opt, absent, present}
+use Rattle.parsing.specs.All.{Opt, absent, present}
 use Rattle.parsing.proofs.ParseLaws.{items-is, no-part, Gives, gives-pure, gives-fail, gives-when, gives-bind, gives-map, gives-times, gives-weaker, gives-whole, gives-cond, gives-present}
 use Rattle.units.specs.declared.Unit.{Unit}
 use Rattle.units.specs.declared.Unit.the-variants as U

@@ -1,6 +1,5 @@
 -- Two readers of the grammar side by side: the second is fed more records, and may admit more. What they find agrees. Assumes nothing.
 -- One reader, fed more: FaultLaws. A reader with limits beside one with none: LenientLaws.
-use mathlib.Core.Path.{_≡_, refl}
 use mathlib.Core.Bool.{Bool, true, false, cond}
 use mathlib.Core.Option.{Option, none, some}
 use mathlib.Core.List.{List, [], _∷_, _++_}

@@ -13,7 +13,7 @@ use mir.Val.{ofZ}
 use mir.Syntax.{w32}
 use Rattle.big_endian.specs.Big.{Bytes, bytesOf}
 use Rattle.big_endian.proofs.BigLaws.{length-bytesOf}
-use Rattle.big_endian.proofs.BytesLaws.{bytes-nil, bytes-append, bytes-bytesOf, bytes-joined, length-joined}
+use Rattle.big_endian.proofs.BytesLaws.{bytes-append, bytes-bytesOf, bytes-joined, length-joined}
 use Rattle.units.specs.Point.{Point}
 use Rattle.stream.specs.Record.{Rec, BOUNDARY, NODE, DATATYPE, NODETYPE, noData, twoByte, eightByteReal, asciiString, listed, manual, ofManual}
 use Rattle.stream.specs.Structure.{Property, Strans, Shape, SaidBody, Said, Structure}

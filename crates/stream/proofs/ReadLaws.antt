@@ -18,10 +18,10 @@ use Rattle.big_endian.specs.Big.{number, bytesOf, joined}
 use Rattle.big_endian.proofs.BigLaws.{number-back}
 use Rattle.big_endian.proofs.BytesLaws.{length-joined}
 use Rattle.refusal.specs.declared.Refusal.{Refusal}
-use Rattle.parsing.specs.Parse.{Part, part, pure, follow}
+use Rattle.parsing.specs.Parse.{part, pure}
 use Rattle.parsing.proofs.ParseLaws.{then}
 use Rattle.units.specs.Point.{Point, endpoint}
-use Rattle.stream.specs.Record.{Rec, ENDSTR, BOUNDARY, PATH, SREF, AREF, TEXT, DATATYPE, NODE, PRESENTATION, STRING, STRANS, MAG, ANGLE, NODETYPE, PROPATTR, PROPVALUE, ENDEL}
+use Rattle.stream.specs.Record.{Rec, ENDSTR, BOUNDARY, PATH, SREF, AREF, TEXT, DATATYPE, NODE, PRESENTATION, STRING, STRANS, MAG, ANGLE, NODETYPE, ENDEL}
 use Rattle.stream.specs.Structure.{Property, Strans, Shape, Path, Text, Sref, Aref, SaidBody, Said, Structure}
 use Rattle.stream.specs.Structure as S
 use Rattle.stream.specs.Records.{emptyRecord, bitsRecord, stringRecord, xyRecord, colrowRecord, longBytes, wordsBytes, pointBytes, pointsBytes, opt, stransBits, stransRecords, endpointOf, cornersOf, shapeRecords, pathRecords, textRecords, srefRecords, arefRecords, bodyRecords, tailRecords, elementRecords, elementsRecords, structureRecords}

@@ -1,0 +1,91 @@
+-- A stream with every kind of element and the cell that is read from it, both by hand (document 02, request 8). Assumes nothing.
+use mathlib.Core.Bool.{true, false}
+use mathlib.Core.Option.{none, some}
+use mathlib.Core.List.{List, [], _∷_, _++_}
+use Prim.Native.Nat.{ℕ}
+use lib.IntN.{ℤ, pos, negsuc}
+use lib.Ieee.{Float, binary64, ofBits}
+use Rattle.units.specs.declared.Unit.{Unit}
+use Rattle.units.specs.declared.Unit.the-variants as U
+use Rattle.units.specs.Point.{Point}
+use Rattle.sheet.specs.Element.{polygon, path, text, node, reference}
+use Rattle.sheet.specs.Cell.{Cell}
+use Rattle.cases.specs.Case.{unpacked}
+
+unfoldable pub stream : List ℕ
+stream =
+    unpacked 36 0x001c050207e80002001d0017003b003a00010002000300040005000600080606544f5000 {- BGNSTR, STRNAME "TOP" -}
+    ++ (unpacked 78 0x0004080000060d02000100060e020002002410030000000000000000000000040000000000000004fffffffc000000000000000000062b02000700062c06760000062b02ffff00042c0600041100 {- BOUNDARY, two properties -}
+    ++ (unpacked 70 0x0004090000060d02000300060e02000400062102000100080f03fffffffb00083003000000060008310300000007001410030000000000000000000000080000000900041100 {- PATH with every option -}
+    ++ (unpacked 40 0x0004090000060d0200ff00060e020000001410030000000100000002000000030000000400041100 {- PATH with none -}
+    ++ (unpacked 76 0x00040c0000060d02000500061602012c00061701000600061a018000000c1b054120000000000000000c1c05425a000000000000000c10030000000afffffff5000819066869210000041100 {- TEXT, PRESENTATION 6, reflected, MAG 2, ANGLE 90, "hi!" -}
+    ++ (unpacked 40 0x00040c0000060d020000000616020000000c10030000000000000000000819064100000000041100 {- TEXT with none, "A" and three zero bytes -}
+    ++ (unpacked 32 0x0004150000060d02000800062a020009000c1003000000010000000200041100 {- NODE -}
+    ++ (unpacked 44 0x00040a0000061206420000061a010000000c1b054080000000000000000c10030000000c0000000d00041100 {- SREF of "B", MAG 0.5 -}
+    ++ (unpacked 68 0x00040b0000061206434300061a010000000c1c05421e0000000000000008130200020003001c100300000064000000c80000006e000000ca00000061000000b900041100 {- AREF of "CC", 2 x 3, ANGLE 30, corners (100, 200) (110, 202) (97, 185) -}
+    ++ (unpacked 50 0x00040b000006120644000008130200010001001c100300000001ffffffff0000000500000005000000060000000600041100 {- AREF of "D", 1 x 1 -}
+    ++ unpacked 4 0x00040700 {- ENDSTR -}
+    )))))))))
+
+-- ---- the cell
+
+abbrev one : Float
+one = ofBits binary64 0x3ff0000000000000
+
+abbrev zero : Float
+zero = ofBits binary64 0
+
+abbrev whole : ℤ → Unit
+whole v = U.Integer v one
+
+abbrev at : ℤ → ℤ → Point Unit
+at x y = record { x = whole x; y = whole y }
+
+unfoldable pub cell : Cell
+cell = record {
+  head = record { name = 0x54 ∷ 0x4f ∷ 0x50 ∷ []; stamps = 2024 ∷ 2 ∷ 29 ∷ 23 ∷ 59 ∷ 58 ∷ 1 ∷ 2 ∷ 3 ∷ 4 ∷ 5 ∷ 6 ∷ [] };
+  elements =
+      record {
+        body = polygon (record { layer = 1; datatype = 2; points = at (pos 0) (pos 0) ∷ at (pos 4) (pos 0) ∷ at (pos 4) (negsuc 3) ∷ at (pos 0) (pos 0) ∷ [] });
+        properties = record { attribute = 7; value = 0x76 ∷ [] } ∷ record { attribute = 65535; value = [] } ∷ [];
+      }
+      ∷ record {
+        body = path (record { layer = 3; datatype = 4; pathType = some 1; width = some (whole (negsuc 4)); begin = some (whole (pos 6)); end = some (whole (pos 7)); points = at (pos 0) (pos 0) ∷ at (pos 8) (pos 9) ∷ [] });
+        properties = [];
+      }
+      ∷ record {
+        body = path (record { layer = 255; datatype = 0; pathType = none; width = none; begin = none; end = none; points = at (pos 1) (pos 2) ∷ at (pos 3) (pos 4) ∷ [] });
+        properties = [];
+      }
+      ∷ record {
+        body = text (record { layer = 5; texttype = 300; vertical = 1; horizontal = 2; reflection = true; magnification = ofBits binary64 0x4000000000000000; degrees = ofBits binary64 0x4056800000000000; origin = at (pos 10) (negsuc 10); string = 0x68 ∷ 0x69 ∷ 0x21 ∷ [] });
+        properties = [];
+      }
+      ∷ record {
+        body = text (record { layer = 0; texttype = 0; vertical = 0; horizontal = 0; reflection = false; magnification = one; degrees = zero; origin = at (pos 0) (pos 0); string = 0x41 ∷ 0 ∷ 0 ∷ [] });
+        properties = [];
+      }
+      ∷ record { body = node (record { layer = 8; datatype = 9; points = at (pos 1) (pos 2) ∷ [] }); properties = [] }
+      ∷ record {
+        body = reference (record { name = 0x42 ∷ []; columns = 1; rows = 1; reflection = false; magnification = ofBits binary64 0x3fe0000000000000; degrees = zero; sine = zero; cosine = one; origin = at (pos 12) (pos 13); columnSpacing = none; rowSpacing = none });
+        properties = [];
+      }
+      ∷ record {
+        body = reference (record { name = 0x43 ∷ 0x43 ∷ []; columns = 2; rows = 3; reflection = false; magnification = one; degrees = ofBits binary64 0x403e000000000000; sine = zero; cosine = one; origin = at (pos 100) (pos 200); columnSpacing = some (at (pos 5) (pos 1)); rowSpacing = some (at (negsuc 0) (negsuc 4)) });
+        properties = [];
+      }
+      ∷ record {
+        body = reference (record { name = 0x44 ∷ []; columns = 1; rows = 1; reflection = false; magnification = one; degrees = zero; sine = zero; cosine = one; origin = at (pos 1) (negsuc 0); columnSpacing = none; rowSpacing = none });
+        properties = [];
+      }
+      ∷ [];
+}
+
+-- ---- a sheet buffer
+
+-- a structure of no elements and its sheet
+unfoldable pub bare : List ℕ
+bare = unpacked 38 0x001c050200000000000000000000000000000000000000000000000000060606414200040700
+
+unfoldable pub bareSheet : List ℕ
+bareSheet = unpacked 40 0x000000010000000c0000001c00024142000000000000000000000000000000000000000000000000
