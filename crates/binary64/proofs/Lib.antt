@@ -17,5 +17,6 @@ pub mod Equal
 pub mod FmaFits
 pub mod Order
 pub mod Snapping
+pub mod Compare
 pub mod Same
 pub mod Exact

@@ -4,4 +4,6 @@ pub mod Rows
 pub mod CellsPass
 pub mod StreamsPass
 pub mod LimitsPass
+pub mod NeighboursPass
 pub mod ReadPass
+pub mod EdgesPass

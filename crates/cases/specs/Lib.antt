@@ -3,4 +3,6 @@ pub mod Case
 pub mod Cells
 pub mod Streams
 pub mod Limits
+pub mod Neighbours
 pub mod Read
+pub mod Edges

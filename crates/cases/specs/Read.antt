@@ -38,7 +38,7 @@ zero = ofBits binary64 0
 abbrev whole : ℤ → Unit
 whole v = U.Integer v one
 
-abbrev at : ℤ → ℤ → Point Unit
+abbrev pub at : ℤ → ℤ → Point Unit
 at x y = record { x = whole x; y = whole y }
 
 unfoldable pub cell : Cell

@@ -1,4 +1,4 @@
--- Demand 3, proved: a written structure draws its sheet's cell. Assumes nothing.
+-- Demand 3, proved: a written structure draws its sheet's cell; and edges never cross in it. Assumes nothing.
 use mathlib.Core.Path.{_≡_, refl, sym, ap, ap₂, _∙_, subst}
 use mathlib.Core.Bool.{Bool, cond}
 use mathlib.Core.Option.{Option, none, some}
@@ -34,7 +34,9 @@ use Rattle.cell.specs.Cell.{Result, stopped, written, writeOne, writeBlo
 use Rattle.cell.specs.Answer.{answerOf}
 use Rattle.cell.specs.Draws.{Each, AlikeElement, Alike, Draws, Demand3}
 use Rattle.cell.specs.Draws as W
-use Rattle.cell.proofs.ResultLaws.{Whenever, check-whenever}
+use Rattle.cell.specs.Edges.{cellEdges, drawnPoints, KeepsEdges, EdgesNeverCross}
+use Rattle.cell.proofs.ResultLaws.{Whenever, whenever-map, check-whenever}
+use Rattle.cell.proofs.Taken.{each-append, each-length, TakenPoint, taken-order}
 use Rattle.cell.proofs.ElementLaws.{name-even, element-written}
 
 -- ---- blocks are bytes
@@ -51,11 +53,12 @@ blocks-bytes (suc n) k s h = more (block-bytes s k h) (blocks-bytes n (suc k) s 
 module _ (policy : GdsRoundingPolicy) (d : Float) (fd : T (fits binary64 d)) (pd : T (positive d)) where
   -- ---- the elements
 
-  -- the blocks hold elements that are alike to what was written
+  -- the blocks hold elements that are alike to what was written, and whose points were converted to it
   record Walked (bs : List (List ℕ)) (ws : List Said) : Type 0 where
     elements : List Element
     held : elementsOf bs ≡ some elements
     alike : Each (AlikeElement policy d) elements (elementsDrawn ws)
+    taken : Each (TakenPoint policy d) (cellEdges d elements) (drawnPoints (elementsDrawn ws))
     fit : All FitElement ws
 
   -- one element in front of the others
@@ -66,11 +69,11 @@ module _ (policy : GdsRoundingPolicy) (d : Float) (fd : T (fits binary64 d)) (pd
   front-walked i b bs e (made w vs) (stopped r k) h he q g = tt
   front-walked i b bs e (made w vs) (written ws es) h he q g =
       let t = element-written policy d fd pd e w (element-fine b e h he) (record { log = vs; is = q }) in
-      record { elements = e ∷ g .elements; held = ap₂ consTo he (g .held); alike = W.more (t .alike) (g .alike); fit = more (t .fit) (g .fit) }
+      record { elements = e ∷ g .elements; held = ap₂ consTo he (g .held); alike = W.more (t .alike) (g .alike); taken = each-append (t .taken) (g .taken); fit = more (t .fit) (g .fit) }
 
   blocks-walked : (i : ℕ) (bs : List (List ℕ)) → All Bytes bs → Whenever (Walked bs) (writeBlocks policy d i bs)
   unfolding writeBlocks writeBlock elementsOf
-  blocks-walked i [] h = record { elements = []; held = refl; alike = W.done; fit = done }
+  blocks-walked i [] h = record { elements = []; held = refl; alike = W.done; taken = W.done; fit = done }
   blocks-walked i (b ∷ bs) (more h hs) = go (elementOf b) refl (writeBlocks policy d (suc i) bs) (blocks-walked (suc i) bs hs)
     where
       go : (x : Option Element) → elementOf b ≡ x → (others : Result (List Said)) → Whenever (Walked bs) others → Whenever (Walked (b ∷ bs)) (writeBlock policy d i x others)
@@ -79,10 +82,11 @@ module _ (policy : GdsRoundingPolicy) (d : Float) (fd : T (fits binary64 d)) (pd
 
   -- ---- the cell
 
-  -- the structure fits its records, and its bytes draw the sheet's cell under each number of the policy
+  -- the structure fits its records, and its bytes draw the sheet's cell under each number of the policy, with its edges in order
   pub record Sound (sheet : List ℕ) (s : Structure) : Type 0 where
     pub fit : FitStructure s
     pub draws : (n : ℕ) → policyOf n ≡ some policy → Draws n d sheet (structureBytes s)
+    pub edges : KeepsEdges d sheet (structureBytes s)
 
   structure-sound : (sheet : List ℕ) (h : Head) (x : Result (List Said)) → Bytes sheet → T (pairsFit sheet) → headOf (blockOf sheet 0) ≡ some h → T (isName (h .name))
       → Whenever (Walked (elementBlocks sheet)) x → Whenever (Sound sheet) (structureWith h x)
@@ -92,18 +96,13 @@ module _ (policy : GdsRoundingPolicy) (d : Float) (fd : T (fits binary64 d)) (pd
       let fine = head-fine (blockOf sheet 0) h (block-bytes sheet 0 all) hh in
       let alike : Alike policy d (record { head = h; elements = w .elements }) (drawnOf (structureFor h ws)) = record { name = trimmed-padded (h .name); elements = w .alike } in
       let fit : FitStructure (structureFor h ws) = record { stamps = fine .stamps; twelve = fine .twelve; name = name-even (h .name) hn (fine .name .bytes); elements = w .fit } in
+      let held : cellOf sheet ≡ some (record { head = h; elements = w .elements })
+      = ap (λ (c : Bool). cond c (cellFrom (headOf (blockOf sheet 0)) (elementsOf (elementBlocks sheet))) none) (on (pairsFit sheet) pairs) ∙ ap₂ cellFrom hh (w .held) in
+      let reads = structureOf-back (structureFor h ws) fit in
       record {
         fit = fit;
-        draws = λ n e. record {
-          rounding = policy;
-          named = e;
-          cell = _;
-          held = ap (λ (c : Bool). cond c (cellFrom (headOf (blockOf sheet 0)) (elementsOf (elementBlocks sheet))) none) (on (pairsFit sheet) pairs) ∙ ap₂ cellFrom hh (w .held);
-          bytewise = structure-bytewise (structureFor h ws) fit;
-          structure = structureFor h ws;
-          reads = structureOf-back (structureFor h ws) fit;
-          alike = alike;
-        };
+        draws = λ n e. record { rounding = policy; named = e; cell = _; held = held; bytewise = structure-bytewise (structureFor h ws) fit; structure = structureFor h ws; reads = reads; alike = alike };
+        edges = record { cell = _; held = held; structure = structureFor h ws; reads = reads; asMany = each-length (w .taken); inOrder = taken-order policy d fd pd (w .taken) };
       }
 
   pub sheet-sound : (sheet : List ℕ) → Bytes sheet → Whenever (Sound sheet) (writeSheet policy d sheet)
@@ -119,16 +118,15 @@ module _ (policy : GdsRoundingPolicy) (d : Float) (fd : T (fits binary64 d)) (pd
 
 -- ---- measuring and writing
 
--- the structure fits its records, and its bytes draw the sheet's cell
+-- the structure fits its records, and its bytes draw the sheet's cell, with its edges in order
 pub record Drawing (policy : ℕ) (d : Float) (sheet : List ℕ) (s : Structure) : Type 0 where
   pub fit : FitStructure s
   pub draws : Draws policy d sheet (structureBytes s)
+  pub edges : KeepsEdges d sheet (structureBytes s)
 
 module _ (policy : ℕ) (d : Float) (sheet : List ℕ) (fd : T (fits binary64 d)) (all : Bytes sheet) where
-  sound-drawing : (rounding : GdsRoundingPolicy) → policyOf policy ≡ some rounding → (pd : T (positive d)) (x : Result Structure)
-      → Whenever (Sound rounding d fd pd sheet) x → Whenever (Drawing policy d sheet) x
-  sound-drawing rounding e pd (stopped r k) h = tt
-  sound-drawing rounding e pd (written s es) h = record { fit = h .fit; draws = h .draws policy e }
+  sound-drawing : (rounding : GdsRoundingPolicy) → policyOf policy ≡ some rounding → (pd : T (positive d)) (s : Structure) → Sound rounding d fd pd sheet s → Drawing policy d sheet s
+  sound-drawing rounding e pd s h = record { fit = h .fit; draws = h .draws policy e; edges = h .edges }
 
   pub measured-drawing : Whenever (Drawing policy d sheet) (measureCell policy d sheet)
   unfolding measureCell measureWith
@@ -139,7 +137,7 @@ module _ (policy : ℕ) (d : Float) (sheet : List ℕ) (fd : T (fits binary64 d)
       go (some rounding) e =
           check-whenever (Drawing policy d sheet) (positive d) _ _
           (λ pd. check-whenever (Drawing policy d sheet) (leb (length sheet) maxSheetLength) _ _
-          (λ l. sound-drawing rounding e pd (writeSheet rounding d sheet) (sheet-sound rounding d fd pd sheet all)))
+          (λ l. whenever-map (sound-drawing rounding e pd) (writeSheet rounding d sheet) (sheet-sound rounding d fd pd sheet all)))
 
   pub written-drawing : (out report : ℕ) → Whenever (Drawing policy d sheet) (writeCell policy d sheet out report)
   unfolding writeCell fitting
@@ -151,14 +149,22 @@ module _ (policy : ℕ) (d : Float) (sheet : List ℕ) (fd : T (fits binary64 d)
           check-whenever (Drawing policy d sheet) (leb (length (structureBytes s)) out) _ _
           (λ a. check-whenever (Drawing policy d sheet) (leb (entryLength * length es) report) _ _ (λ b. h))
 
+-- Where the answer is a structure of n bytes, the output's first n bytes are the structure's.
+accepted-bytes : (P : List ℕ → Type 0) (out : List ℕ) (n entries : ℕ) (greatest : Float) (x : Result Structure) → Whenever (λ s. P (structureBytes s)) x
+    → answerOf x ≡ A.Accepted n entries greatest → P (take n (outAfter x out))
+accepted-bytes P out n entries greatest (stopped r k) h q = let z : _≡_ {A = ℕ} 0 1 = cc in absurd (omega arith)
+accepted-bytes P out n entries greatest (written s es) h q =
+    let e : length (structureBytes s) ≡ n = cc in
+    subst (λ (k : ℕ). P (take k (outAfter (written s es) out))) e (subst P (sym (take-append-seam (structureBytes s) (drop (length (structureBytes s)) out))) h)
+
 -- Demand 3.
 pub demand3 : Demand3
 demand3 policy d sheet out report n entries greatest fd all q =
-    go (writeCell policy d sheet (length out) (length report)) (written-drawing policy d sheet fd all (length out) (length report)) q
-  where
-    go : (x : Result Structure) → Whenever (Drawing policy d sheet) x → answerOf x ≡ A.Accepted n entries greatest → Draws policy d sheet (take n (outAfter x out))
-    go (stopped r k) h q = let z : _≡_ {A = ℕ} 0 1 = cc in absurd (omega arith)
-    go (written s es) h q =
-        let e : length (structureBytes s) ≡ n = cc in
-        subst (λ (k : ℕ). Draws policy d sheet (take k (outAfter (written s es) out))) e
-        (subst (λ (b : List ℕ). Draws policy d sheet b) (sym (take-append-seam (structureBytes s) (drop (length (structureBytes s)) out))) (h .draws))
+    let x = writeCell policy d sheet (length out) (length report) in
+    accepted-bytes (Draws policy d sheet) out n entries greatest x (whenever-map (λ s h. h .draws) x (written-drawing policy d sheet fd all (length out) (length report))) q
+
+-- Edges never cross.
+pub edges-never-cross : EdgesNeverCross
+edges-never-cross policy d sheet out report n entries greatest fd all q =
+    let x = writeCell policy d sheet (length out) (length report) in
+    accepted-bytes (KeepsEdges d sheet) out n entries greatest x (whenever-map (λ s h. h .edges) x (written-drawing policy d sheet fd all (length out) (length report))) q

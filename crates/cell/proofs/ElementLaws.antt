@@ -1,8 +1,8 @@
--- An element that was written is alike to what it draws, and fits its records. Assumes nothing.
+-- An element that was written is alike to what it draws, its points are conversions of the sheet's, and it fits its records. Assumes nothing.
 use mathlib.Core.Path.{_≡_, refl, sym, ap, subst}
 use mathlib.Core.Bool.{Bool, true, false, _&&_, cond}
 use mathlib.Core.Option.{Option, none, some}
-use mathlib.Core.List.{List}
+use mathlib.Core.List.{List, [], _∷_}
 use Prim.Native.Nat.{ℕ, _+_, _*_, _≤_, _<_}
 use native.Mathlib.Nat.{le-trans}
 use native.Mathlib.Omega.{arith}
@@ -19,6 +19,7 @@ use Rattle.conversion.specs.declared.GdsRoundingPolicy.{GdsRoundingPolicy}
 use Rattle.conversion.specs.Made.{Made, pure, _>>=_}
 use Rattle.conversion.specs.Field.{widthField, beginField, endField, originField}
 use Rattle.conversion.proofs.MadeLaws.{Yields, made-yields, steps, then-steps, checked, needed}
+use Rattle.conversion.proofs.ConvertLaws.{physical-fits}
 use Rattle.conversion.proofs.ArrayLaws.{AxisConverted, array-converted, instances-close, EndpointInRange}
 use Rattle.sheet.specs.Element.{maxPathType}
 use Rattle.sheet.specs.Element as S
@@ -36,6 +37,9 @@ use Rattle.cell.specs.Names.{isName, nameBytes}
 use Rattle.cell.specs.Write.{layerAndType, single, writeShape, writePolygon, writeNode, writePath, writeText, writeSref, writeAref, writeReference, writeBody, writeElement}
 use Rattle.cell.specs.Draws.{AlikeInstances, AlikeShape, AlikePath, AlikeText, AlikeSref, AlikeBody, AlikeElement}
 use Rattle.cell.specs.Draws as W
+use Rattle.cell.specs.Draws.{Each}
+use Rattle.cell.specs.Edges.{edgesAt, arrayEdges, pointEdges, bodyEdges, bodyPoints}
+use Rattle.cell.proofs.Taken.{TakenPoint}
 use Rattle.cell.proofs.PartLaws.{properties-alike, TransformFor, transform-alike, range-long, point-alike, points-alike, length-alike}
 
 -- ---- limits
@@ -85,8 +89,13 @@ drawn-array w h = sym (ap (λ (c : Bool). cond c (D.sref (onlyInstance w)) (D.ar
 -- ---- bodies, under a policy and a database unit
 
 module _ (policy : GdsRoundingPolicy) (d : Float) (fd : T (fits binary64 d)) (pd : T (positive d)) where
+  -- the points of the one are the conversions of the other's
+  abbrev Takes : List (Point (Option Float)) → List (Point ℤ) → Type 0
+  Takes s t = Each (TakenPoint policy d) s t
+
   record ShapeWritten (e : S.Shape) (w : D.Shape) : Type 0 where
     alike : AlikeShape policy d e w
+    taken : Takes (pointEdges d (e .points)) (w .points)
     fit : FitShape w
 
   shape-written : (least most : ℕ) (e : S.Shape) (w : D.Shape) → most ≤ maxPoints → FineShape e → Yields (writeShape policy d least most e) w → ShapeWritten e w
@@ -101,6 +110,7 @@ module _ (policy : GdsRoundingPolicy) (d : Float) (fd : T (fits binary64 d)) (pd
       subst (λ (z : D.Shape). ShapeWritten e z) (made-yields (k3 .then))
       (record {
         alike = record { layer = refl; datatype = refl; points = ps .alike };
+        taken = ps .taken;
         fit = record { layer = lt .layer; datatype = lt .datatype; points = record { each = ps .fit; count = c } };
       })
 
@@ -117,6 +127,7 @@ module _ (policy : GdsRoundingPolicy) (d : Float) (fd : T (fits binary64 d)) (pd
 
   record PathWritten (e : S.Path) (w : D.Path) : Type 0 where
     alike : AlikePath policy d e w
+    taken : Takes (pointEdges d (e .points)) (w .points)
     fit : FitPath w
 
   path-written : (e : S.Path) (w : D.Path) → FinePath e → Yields (writePath policy d e) w → PathWritten e w
@@ -137,11 +148,13 @@ module _ (policy : GdsRoundingPolicy) (d : Float) (fd : T (fits binary64 d)) (pd
       subst (λ (z : D.Path). PathWritten e z) (made-yields (kp .then))
       (record {
         alike = record { layer = refl; datatype = refl; pathType = refl; width = lw .alike; begin = lb .alike; end = le .alike; points = ps .alike };
+        taken = ps .taken;
         fit = record { layer = lt .layer; datatype = lt .datatype; pathType = opt-word (e .pathType) (h .pathType); width = lw .fit; begin = lb .fit; end = le .fit; points = record { each = ps .fit; count = c } };
       })
 
   record TextWritten (e : S.Text) (w : D.Text (Option ℕ) (Option D.Strans)) : Type 0 where
     alike : AlikeText policy d e (textDrawn w)
+    taken : TakenPoint policy d (edgesAt d (e .origin)) (w .origin)
     fit : FitText w
 
   text-written : (e : S.Text) (w : D.Text (Option ℕ) (Option D.Strans)) → FineText e → Yields (writeText policy d e) w → TextWritten e w
@@ -156,6 +169,7 @@ module _ (policy : GdsRoundingPolicy) (d : Float) (fd : T (fits binary64 d)) (pd
       subst (λ (z : D.Text (Option ℕ) (Option D.Strans)). TextWritten e z) (made-yields (k4 .then))
       (record {
         alike = record { layer = refl; texttype = refl; presentation = refl; transform = t .alike; origin = o .alike; string = trimmed-padded (e .string) };
+        taken = o .taken;
         fit = record {
           layer = word-below maxLayer (e .layer) (lit< tt) (leb→le (e .layer) maxLayer (k1 .passed));
           texttype = h .texttype;
@@ -173,6 +187,7 @@ module _ (policy : GdsRoundingPolicy) (d : Float) (fd : T (fits binary64 d)) (pd
 
   record SrefWritten (e : S.Reference) (w : D.Sref (Option D.Strans)) : Type 0 where
     alike : AlikeSref policy d e (srefDrawn w)
+    taken : TakenPoint policy d (edgesAt d (e .origin)) (w .origin)
     fit : FitSref w
 
   sref-written : (e : S.Reference) (t : Option D.Strans) (w : D.Sref (Option D.Strans)) → FineReference e → T (single e) → T (isName (e .name))
@@ -190,6 +205,7 @@ module _ (policy : GdsRoundingPolicy) (d : Float) (fd : T (fits binary64 d)) (pd
           transform = u .alike;
           origin = o .alike;
         };
+        taken = o .taken;
         fit = record { name = name-even (e .name) n (h .name .bytes); transform = u .fit; origin = o .fit };
       })
 
@@ -204,6 +220,7 @@ module _ (policy : GdsRoundingPolicy) (d : Float) (fd : T (fits binary64 d)) (pd
 
   record ArefWritten (e : S.Reference) (w : D.Aref (Option D.Strans)) : Type 0 where
     alike : AlikeBody policy d (S.reference e) (bodyDrawn (D.aref w))
+    taken : Takes (arrayEdges (e .origin) ∷ []) (bodyPoints (bodyDrawn (D.aref w)))
     fit : FitAref w
 
   aref-written : (e : S.Reference) (t : Option D.Strans) (w : D.Aref (Option D.Strans)) → FineReference e → single e ≡ false → T (isName (e .name))
@@ -227,6 +244,8 @@ module _ (policy : GdsRoundingPolicy) (d : Float) (fd : T (fits binary64 d)) (pd
               x = instances-alike (e .columns) (e .rows) _ _ _ _ _ _ (a .x);
               y = instances-alike (e .columns) (e .rows) _ _ _ _ _ _ (a .y);
             }));
+        taken = subst (λ (z : D.Body ℕ Transform). Takes (arrayEdges (e .origin) ∷ []) (bodyPoints z)) (drawn-array _ s)
+            (W.more (record { x = (physical-fits (e .origin .x), a .x .origin .value); y = (physical-fits (e .origin .y), a .y .origin .value) }) W.done);
         fit = record {
           name = name-even (e .name) n (h .name .bytes);
           transform = u .fit;
@@ -247,6 +266,7 @@ module _ (policy : GdsRoundingPolicy) (d : Float) (fd : T (fits binary64 d)) (pd
 
   pub record BodyWritten (e : S.Body) (w : D.SaidBody) : Type 0 where
     pub alike : AlikeBody policy d e (bodyDrawn w)
+    pub taken : Takes (bodyEdges d e) (bodyPoints (bodyDrawn w))
     pub fit : FitBody w
 
   -- a body put into its kind
@@ -268,24 +288,28 @@ module _ (policy : GdsRoundingPolicy) (d : Float) (fd : T (fits binary64 d)) (pd
       (and-l (within 1 (e .columns) maxColRow) (within 1 (e .rows) maxColRow) (k2 .passed)) (and-r (within 1 (e .columns) maxColRow) (within 1 (e .rows) maxColRow) (k2 .passed))
       (transform-alike (e .degrees) (e .magnification) (e .reflection) (k5 .value) (h .magnification) (h .degrees) (k5 .first)) (single e) refl (k5 .then)
     where
+      by-kind : (c : Bool) → single e ≡ c → {t : List (Point ℤ)} → Takes (cond c (edgesAt d (e .origin)) (arrayEdges (e .origin)) ∷ []) t → Takes (bodyEdges d (S.reference e)) t
+      by-kind c q {t} h = subst (λ (b : Bool). Takes (cond b (edgesAt d (e .origin)) (arrayEdges (e .origin)) ∷ []) t) (sym q) h
+
       go : (t : Option D.Strans) → T (isName (e .name)) → T (within 1 (e .columns) maxColRow) → T (within 1 (e .rows) maxColRow)
           → TransformFor (e .reflection) (e .magnification) (e .degrees) t → (c : Bool) → single e ≡ c
           → Yields (cond c (writeSref policy d e t >>= λ w. pure (D.sref w)) (writeAref policy d e t >>= λ w. pure (D.aref w))) w → BodyWritten (S.reference e) w
-      go t n hc hr u true q y = made-body D.sref (S.reference e) w (λ a k. let r = sref-written e t a h (subst T (sym q) tt) n u k in record { alike = W.sref (r .alike); fit = Fit.sref (r .fit) }) y
-      go t n hc hr u false q y = made-body D.aref (S.reference e) w (λ a k. let r = aref-written e t a h q n hc hr u k in record { alike = r .alike; fit = Fit.aref (r .fit) }) y
+      go t n hc hr u true q y = made-body D.sref (S.reference e) w (λ a k. let r = sref-written e t a h (subst T (sym q) tt) n u k in record { alike = W.sref (r .alike); taken = by-kind true q (W.more (r .taken) W.done); fit = Fit.sref (r .fit) }) y
+      go t n hc hr u false q y = made-body D.aref (S.reference e) w (λ a k. let r = aref-written e t a h q n hc hr u k in record { alike = r .alike; taken = by-kind false q (r .taken); fit = Fit.aref (r .fit) }) y
 
   body-written : (e : S.Body) (w : D.SaidBody) → FineBody e → Yields (writeBody policy d e) w → BodyWritten e w
   unfolding writeBody
-  body-written (S.polygon e) w (F.polygon h) y = made-body D.boundary (S.polygon e) w (λ a k. let r = polygon-written e a h k in record { alike = W.polygon (r .alike); fit = Fit.boundary (r .fit) }) y
-  body-written (S.path e) w (F.path h) y = made-body D.path (S.path e) w (λ a k. let r = path-written e a h k in record { alike = W.path (r .alike); fit = Fit.path (r .fit) }) y
-  body-written (S.text e) w (F.text h) y = made-body D.text (S.text e) w (λ a k. let r = text-written e a h k in record { alike = W.text (r .alike); fit = Fit.text (r .fit) }) y
-  body-written (S.node e) w (F.node h) y = made-body D.node (S.node e) w (λ a k. let r = node-written e a h k in record { alike = W.node (r .alike); fit = Fit.node (r .fit) }) y
+  body-written (S.polygon e) w (F.polygon h) y = made-body D.boundary (S.polygon e) w (λ a k. let r = polygon-written e a h k in record { alike = W.polygon (r .alike); taken = r .taken; fit = Fit.boundary (r .fit) }) y
+  body-written (S.path e) w (F.path h) y = made-body D.path (S.path e) w (λ a k. let r = path-written e a h k in record { alike = W.path (r .alike); taken = r .taken; fit = Fit.path (r .fit) }) y
+  body-written (S.text e) w (F.text h) y = made-body D.text (S.text e) w (λ a k. let r = text-written e a h k in record { alike = W.text (r .alike); taken = W.more (r .taken) W.done; fit = Fit.text (r .fit) }) y
+  body-written (S.node e) w (F.node h) y = made-body D.node (S.node e) w (λ a k. let r = node-written e a h k in record { alike = W.node (r .alike); taken = r .taken; fit = Fit.node (r .fit) }) y
   body-written (S.reference e) w (F.reference h) y = reference-written e w h y
 
   -- ---- every element
 
   pub record Written (e : S.Element) (w : D.Said) : Type 0 where
     pub alike : AlikeElement policy d e (elementDrawn w)
+    pub taken : Takes (bodyEdges d (e .body)) (bodyPoints (elementDrawn w .body))
     pub fit : FitElement w
 
   pub element-written : (e : S.Element) (w : D.Said) → FineElement e → Yields (writeElement policy d e) w → Written e w
@@ -296,4 +320,4 @@ module _ (policy : GdsRoundingPolicy) (d : Float) (fd : T (fits binary64 d)) (pd
       let b = body-written (e .body) (k1 .value) (h .body) (k1 .first) in
       let qs = properties-alike (e .properties) (k2 .value) (h .properties .each) (k2 .first) in
       subst (λ (z : D.Said). Written e z) (made-yields (k2 .then))
-      (record { alike = record { body = b .alike; properties = qs .alike }; fit = record { body = b .fit; properties = qs .fit } })
+      (record { alike = record { body = b .alike; properties = qs .alike }; taken = b .taken; fit = record { body = b .fit; properties = qs .fit } })

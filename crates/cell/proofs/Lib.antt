@@ -1,4 +1,5 @@
 -- Laws of the definitions: demand 3, the order of refusals, measuring and writing.
+pub mod Taken
 pub mod PartLaws
 pub mod ElementLaws
 pub mod ResultLaws

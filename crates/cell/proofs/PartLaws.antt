@@ -29,7 +29,7 @@ use Rattle.conversion.specs.Made.{Made, pure}
 use Rattle.conversion.proofs.MadeLaws.{Yields, no-yield, made-yields, steps, checked}
 use Rattle.conversion.specs.Field.{pointField, xAxis, yAxis, noAxis}
 use Rattle.conversion.specs.Convert.{Spot, inRange, convertBy, convertUnit}
-use Rattle.conversion.proofs.ConvertLaws.{unit-converted, unit-passed}
+use Rattle.conversion.proofs.ConvertLaws.{physical-fits, unit-converted, unit-passed}
 use Rattle.conversion.specs.Points.{spot, writePoint, writePoints, writeLength}
 use Rattle.sheet.specs.Element as S
 use Rattle.sheet.proofs.Fine.{FineUnit, integer, FinePoint, FineProperty}
@@ -41,6 +41,8 @@ use Rattle.cell.specs.Limits.{maxValueLength}
 use Rattle.cell.specs.Write.{encodable, writeReal, writeMagnification, writeAngle, stransOf, writeTransform, writeProperties}
 use Rattle.cell.specs.Draws as W
 use Rattle.cell.specs.Draws.{Each, Both, AlikeBy, AlikeCoordinate, AlikePoint, AlikeProperty, AlikeTransform}
+use Rattle.cell.specs.Edges.{convertedBy, edgesAt, pointEdges}
+use Rattle.cell.proofs.Taken.{TakenBy, TakenPoint}
 
 -- ---- properties
 
@@ -147,6 +149,7 @@ range-long (negsuc n) t = record { sfits = ltb→lt n (2 ^ 31) t }
 module _ (policy : GdsRoundingPolicy) (d : Float) (F : T (fits binary64 d)) (b : T (positive d)) where
   pub record CoordinateFor (u : Unit) (q : ℤ) : Type 0 where
     pub alike : AlikeCoordinate policy d u q
+    pub taken : TakenBy policy d (convertedBy (passed d u) (physical u)) q
     pub fit : Long q
 
   passed-long : (u : Unit) (v : ℤ) → FineUnit u → passed d u ≡ some v → Long v
@@ -167,13 +170,22 @@ module _ (policy : GdsRoundingPolicy) (d : Float) (F : T (fits binary64 d)) (b :
       go : (x : Option ℤ) → passed d u ≡ x → Yields (convertBy policy d at u x) q → CoordinateFor u q
       go none e y =
           let c = unit-converted policy d at u q F b y in
-          record { alike = subst (λ (x : Option ℤ). AlikeBy policy d x (physical u) q) (sym e) (c .physical, c .close); fit = range-long q (c .ranged) }
+          record {
+            alike = subst (λ (x : Option ℤ). AlikeBy policy d x (physical u) q) (sym e) (c .physical, c .close);
+            taken = subst (λ (x : Option ℤ). TakenBy policy d (convertedBy x (physical u)) q) (sym e) (physical-fits u, c .value);
+            fit = range-long q (c .ranged);
+          }
       go (some v) e y =
           let k = unit-passed policy d at u v q y in
-          record { alike = subst (λ (x : Option ℤ). AlikeBy policy d x (physical u) q) (sym e) (sym k); fit = subst Long k (passed-long u v h e) }
+          record {
+            alike = subst (λ (x : Option ℤ). AlikeBy policy d x (physical u) q) (sym e) (sym k);
+            taken = subst (λ (x : Option ℤ). TakenBy policy d (convertedBy x (physical u)) q) (sym e) tt;
+            fit = subst Long k (passed-long u v h e);
+          }
 
   pub record PointFor (p : Point Unit) (q : Point ℤ) : Type 0 where
     pub alike : AlikePoint policy d p q
+    pub taken : TakenPoint policy d (edgesAt d p) q
     pub fit : FitPoint q
 
   pub point-alike : (f k : ℕ) (p : Point Unit) (q : Point ℤ) → FinePoint p → Yields (writePoint policy d f k p) q → PointFor p q
@@ -183,23 +195,24 @@ module _ (policy : GdsRoundingPolicy) (d : Float) (F : T (fits binary64 d)) (b :
       let k2 = steps (k1 .then) in
       let x = coordinate-alike (spot f xAxis k) (p .x) (k1 .value) (h .x) (k1 .first) in
       let z = coordinate-alike (spot f yAxis k) (p .y) (k2 .value) (h .y) (k2 .first) in
-      subst (λ (q : Point ℤ). PointFor p q) (made-yields (k2 .then)) (record { alike = record { x = x .alike; y = z .alike }; fit = record { x = x .fit; y = z .fit } })
+      subst (λ (q : Point ℤ). PointFor p q) (made-yields (k2 .then)) (record { alike = record { x = x .alike; y = z .alike }; taken = record { x = x .taken; y = z .taken }; fit = record { x = x .fit; y = z .fit } })
 
   pub record PointsFor (ps : List (Point Unit)) (qs : List (Point ℤ)) : Type 0 where
     pub alike : Each (AlikePoint policy d) ps qs
+    pub taken : Each (TakenPoint policy d) (pointEdges d ps) qs
     pub fit : All FitPoint qs
     pub count : length qs ≡ length ps
 
   pub points-alike : (k : ℕ) (ps : List (Point Unit)) (qs : List (Point ℤ)) → All FinePoint ps → Yields (writePoints policy d k ps) qs → PointsFor ps qs
   unfolding writePoints
-  points-alike k [] qs h y = subst (λ (z : List (Point ℤ)). PointsFor [] z) (made-yields y) (record { alike = W.done; fit = done; count = refl })
+  points-alike k [] qs h y = subst (λ (z : List (Point ℤ)). PointsFor [] z) (made-yields y) (record { alike = W.done; taken = W.done; fit = done; count = refl })
   points-alike k (p ∷ ps) qs (more h hs) y =
       let k1 = steps y in
       let k2 = steps (k1 .then) in
       let x = point-alike pointField k p (k1 .value) h (k1 .first) in
       let r = points-alike (suc k) ps (k2 .value) hs (k2 .first) in
       subst (λ (z : List (Point ℤ)). PointsFor (p ∷ ps) z) (made-yields (k2 .then))
-      (record { alike = W.more (x .alike) (r .alike); fit = more (x .fit) (r .fit); count = ap suc (r .count) })
+      (record { alike = W.more (x .alike) (r .alike); taken = W.more (x .taken) (r .taken); fit = more (x .fit) (r .fit); count = ap suc (r .count) })
 
   pub record LengthFor (u : Option Unit) (q : Option ℤ) : Type 0 where
     pub alike : Both (AlikeCoordinate policy d) u q

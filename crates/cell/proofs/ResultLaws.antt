@@ -22,6 +22,10 @@ Whenever P = Holds (λ r k. T true) P
 pub check-whenever : {A : Type 0} (P : A → Type 0) (t : Bool) (r : Refusal) (x : Result A) → (T t → Whenever P x) → Whenever P (check t r x)
 check-whenever P t r x g = check-holds (λ r k. T true) P t r x (λ f. tt) g
 
+pub whenever-map : {A : Type 0} {P Q : A → Type 0} → ((a : A) → P a → Q a) → (x : Result A) → Whenever P x → Whenever Q x
+whenever-map f (stopped r k) h = tt
+whenever-map f (written a es) h = f a h
+
 -- of every refusal, where nothing is said of what is written
 abbrev pub Stops : {A : Type 0} → (Refusal → ℕ → Type 0) → Result A → Type 0
 Stops S = Holds S (λ a. T true)

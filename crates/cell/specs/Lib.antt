@@ -7,3 +7,4 @@ pub mod Cell
 pub mod Answer
 pub mod Order
 pub mod Draws
+pub mod Edges

@@ -1,34 +1,49 @@
--- What an accepted conversion is: in range, and close to its physical value. Assumes nothing.
-use mathlib.Core.Path.{_≡_, refl, sym, ap, _∙_, subst}
-use mathlib.Core.Bool.{Bool, true, false, not, cond}
-use mathlib.Core.Option.{Option, none, some}
-use mathlib.Core.List.{List, []}
-use Prim.Native.Nat.{ℕ, _+_, _*_, _^_, _≤_}
+-- Each policy's rounding keeps order, also where it snaps; and what an accepted conversion is: in range, and close to its physical value. Assumes nothing.
+use mathlib.Core.Path.{_≡_, refl, sym, subst}
+use mathlib.Core.Bool.{Bool, true, false, cond}
+use mathlib.Core.Option.{none, some}
+use Prim.Native.Nat.{ℕ, _+_, _^_, _≤_}
 use native.Mathlib.Nat.{le-trans, mul-le-mul-right}
 use lib.Dec.{T, lit≤}
 use lib.IntN.{ℤ, natAbs}
-use lib.Ieee.{Float, binary64, fits, div, mul, ofInt}
+use lib.Signed.{_≤ℤ_}
+use lib.Ieee.{Float, binary64, fits, div, ofInt}
 use lib.Ieee.Fits.{div-fits, mul-fits}
 use lib.Ieee.Scale.{finite}
 use lib.Ieee.Positive.{positive}
 use Rattle.binary64.specs.Value.{scaled, roundAway, floorOf, ceilOf}
-use Rattle.refusal.specs.declared.Refusal.the-variants as R
+use Rattle.binary64.specs.declared.Direction.the-variants as Direction
+use Rattle.binary64.proofs.Order.{rounded-order}
+use Rattle.binary64.proofs.Snapping.{snapping-order}
 use Rattle.units.specs.declared.Unit.{Unit}
 use Rattle.units.specs.declared.Unit.the-variants as U
-use Rattle.units.specs.Physical.{unitsOf, physical, passed}
+use Rattle.units.specs.Physical.{physical}
 use Rattle.units.specs.Point.{endpoint}
 use Rattle.conversion.specs.declared.GdsRoundingPolicy.{GdsRoundingPolicy}
 use Rattle.conversion.specs.declared.GdsRoundingPolicy.the-variants.{Nearest, Floor, Ceil, ErrorIfOffGrid}
-use Rattle.conversion.specs.Made.{Made, made, pure, need, _>>=_, _>>_}
-use Rattle.conversion.proofs.MadeLaws.{Yields, made-yields, Steps, steps, then-steps, Checked, checked, needed}
-use Rattle.conversion.specs.Convert.{Spot, onGrid, rounded, inRange, ranged, gridValue, databaseValue, convertPhysical, physicalValue, convertBy, convertUnit, arrayEndpoint}
+use Rattle.conversion.proofs.MadeLaws.{Yields, made-yields, steps, checked}
+use Rattle.conversion.specs.Convert.{Spot, onGrid, rounded, inRange, ranged, gridValue, databaseValue, convertPhysical, physicalValue, convertBy, arrayEndpoint}
 use Rattle.conversion.specs.Close.{allowance, Close}
 use Rattle.conversion.proofs.Bound.{Rounds, nearest-rounds, floor-rounds, ceil-rounds, snap-rounds, rounds-close}
 
-pub close-wider : (m n : ℕ) (d : Float) (P q : ℤ) → m ≤ n → Close m d P q → Close n d P q
-close-wider m n d P q h c = le-trans c (mul-le-mul-right (natAbs (scaled d)) h)
+-- ---- rounding keeps order (binary64's laws of order)
+
+-- of what the two are
+joined : {m n a b : ℤ} → m ≡ a → n ≡ b → m ≤ℤ n → a ≤ℤ b
+joined {n = n} {a = a} e f h = subst (λ (z : ℤ). a ≤ℤ z) f (subst (λ (z : ℤ). z ≤ℤ n) e h)
+
+pub policy-order : (policy : GdsRoundingPolicy) (s t : Float) (a b : ℤ) → T (fits binary64 s) → T (fits binary64 t) → T (finite s) → T (finite t) → scaled s ≤ℤ scaled t
+    → Yields (rounded policy s) a → Yields (rounded policy t) b → a ≤ℤ b
+unfolding rounded onGrid
+policy-order Nearest s t a b S U f g h y z = joined (made-yields y) (made-yields z) (rounded-order Direction.Nearest s t h)
+policy-order Floor s t a b S U f g h y z = joined (made-yields y) (made-yields z) (snapping-order Direction.Down s t S U f g h)
+policy-order Ceil s t a b S U f g h y z = joined (made-yields y) (made-yields z) (snapping-order Direction.Up s t S U f g h)
+policy-order ErrorIfOffGrid s t a b S U f g h y z = joined (made-yields (checked _ y .then)) (made-yields (checked _ z .then)) (rounded-order Direction.Nearest s t h)
 
 -- ---- p / d, rounded by the policy
+
+pub close-wider : (m n : ℕ) (d : Float) (P q : ℤ) → m ≤ n → Close m d P q → Close n d P q
+close-wider m n d P q h c = le-trans c (mul-le-mul-right (natAbs (scaled d)) h)
 
 module _ (p d : Float) (P : T (fits binary64 p)) (D : T (fits binary64 d)) (a : T (finite p)) (b : T (positive d)) (c : T (finite (div binary64 p d))) where
   abbrev s : Float
@@ -55,8 +70,9 @@ module _ (p d : Float) (P : T (fits binary64 p)) (D : T (fits binary64 d)) (a : 
 
 -- ---- one conversion
 
--- q is accepted for p: p is finite, q is a signed 32-bit number, and q is close to p
+-- q is accepted for p: it is the database value of p, p is finite, q is a signed 32-bit number, and q is close to p
 pub record Converted (policy : GdsRoundingPolicy) (d p : Float) (q : ℤ) : Type 0 where
+  pub value : Yields (databaseValue policy d p) q
   pub physical : T (finite p)
   pub ranged : T (inRange q)
   pub close : Close (allowance policy) d (scaled p) q
@@ -68,20 +84,33 @@ ranged-is z q y =
     let e : z ≡ q = made-yields (k .then) in
     (subst (λ (x : ℤ). T (inRange x)) e (k .passed), e)
 
--- THE BOUND OF ONE CONVERSION, for every policy, with the policy's allowance
-pub value-converted : (policy : GdsRoundingPolicy) (d p : Float) (q : ℤ) → T (fits binary64 d) → T (positive d) → T (fits binary64 p)
-    → Yields (databaseValue policy d p) q → Converted policy d p q
+-- what an accepted physical value has passed
+pub record Passed (policy : GdsRoundingPolicy) (d p : Float) (q : ℤ) : Type 0 where
+  pub physical : T (finite p)
+  pub quotient : T (finite (div binary64 p d))
+  pub rounds : Yields (rounded policy (div binary64 p d)) q
+  pub ranged : T (inRange q)
+
+pub value-passed : (policy : GdsRoundingPolicy) (d p : Float) (q : ℤ) → Yields (databaseValue policy d p) q → Passed policy d p q
 unfolding databaseValue gridValue
-value-converted policy d p q D b P y =
+value-passed policy d p q y =
     let k1 = checked _ y in
     let k2 = checked _ (k1 .then) in
     let k3 = steps (k2 .then) in
     let k4 = ranged-is (k3 .value) q (k3 .then) in
     record {
       physical = k1 .passed;
+      quotient = k2 .passed;
+      rounds = subst (λ (z : ℤ). Yields (rounded policy (div binary64 p d)) z) (k4 .1) (k3 .first);
       ranged = k4 .0;
-      close = rounded-close p d P D (k1 .passed) b (k2 .passed) policy q (subst (λ (z : ℤ). Yields (rounded policy (div binary64 p d)) z) (k4 .1) (k3 .first)) (k4 .0);
     }
+
+-- THE BOUND OF ONE CONVERSION, for every policy, with the policy's allowance
+pub value-converted : (policy : GdsRoundingPolicy) (d p : Float) (q : ℤ) → T (fits binary64 d) → T (positive d) → T (fits binary64 p)
+    → Yields (databaseValue policy d p) q → Converted policy d p q
+value-converted policy d p q D b P y =
+    let k = value-passed policy d p q y in
+    record { value = y; physical = k .physical; ranged = k .ranged; close = rounded-close p d P D (k .physical) b (k .quotient) policy q (k .rounds) (k .ranged) }
 
 pub physical-converted : (policy : GdsRoundingPolicy) (d : Float) (at : Spot) (p : Float) (q : ℤ) → T (fits binary64 d) → T (positive d) → T (fits binary64 p)
     → Yields (convertPhysical policy d at p) q → Converted policy d p q

@@ -1,0 +1,2 @@
+-- Conversion keeps order, proved.
+pub mod OrderLaws

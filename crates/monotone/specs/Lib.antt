@@ -1,0 +1,2 @@
+-- Conversion keeps the order of physical values.
+pub mod Order
