@@ -4,18 +4,15 @@ use mathlib.Core.Option.{Option, none, some}
 use mathlib.Core.List.{List}
 use Prim.Native.Nat.{ℕ}
 use native.Mathlib.Omega.{arith}
-use lib.Dec.{T}
 use lib.ListN.{length}
-use lib.IntN.{ℤ}
-use lib.Signed.{_≤ℤ_}
-use lib.Ieee.{Float, le}
+use lib.Ieee.{Float}
 use Rattle.sheet.specs.Cell.{Cell, cellOf}
 use Rattle.sheet.specs.Encode.{cellSheet}
 use Rattle.stream.specs.Structure.{Structure}
 use Rattle.stream.specs.Drawn.{drawnOf}
 use Rattle.stream.specs.Read.{mapOption, structureOf}
 use Rattle.cell.specs.Cell.{Result, stopped, written, measureCell, structureBytes}
-use Rattle.cell.specs.Edges.{Axis, alongX, alongY, cellEdges, drawnPoints, Stands, here, later, KeepsEdges}
+use Rattle.cell.specs.Edges.{alongX, alongY, cellEdges, drawnPoints, here, later, InOrder, KeepsEdges}
 use Rattle.cases.specs.Case.{halved}
 use Rattle.cases.specs.Read.{stream, cell}
 use Rattle.cases.specs.Edges.{one, two, points, convertedEdges, passedEdges, pair, kept, crossed, parted, short}
@@ -48,13 +45,8 @@ module _ {d : Float} {sheet bytes : List ℕ} (k : KeepsEdges d sheet bytes) (c 
   as-many : length (cellEdges d (c .elements)) ≡ length (drawnPoints (drawnOf s .elements))
   as-many = of-these (λ c s. length (cellEdges d (c .elements)) ≡ length (drawnPoints (drawnOf s .elements))) (k .asMany)
 
-  in-order : (axis : Axis) (p q : Float) (a b : ℤ) → Stands axis p a (cellEdges d (c .elements)) (drawnPoints (drawnOf s .elements)) → Stands axis q b (cellEdges d (c .elements)) (drawnPoints (drawnOf s .elements))
-      → T (le p q) → a ≤ℤ b
-  in-order =
-      of-these
-      (λ c s. (axis : Axis) (p q : Float) (a b : ℤ) → Stands axis p a (cellEdges d (c .elements)) (drawnPoints (drawnOf s .elements)) → Stands axis q b (cellEdges d (c .elements)) (drawnPoints (drawnOf s .elements))
-      → T (le p q) → a ≤ℤ b)
-      (k .inOrder)
+  in-order : InOrder (cellEdges d (c .elements)) (drawnPoints (drawnOf s .elements))
+  in-order = of-these (λ c s. InOrder (cellEdges d (c .elements)) (drawnPoints (drawnOf s .elements))) (k .inOrder)
 
 -- the structure that is written, if any
 abbrev pub structureIn : Result Structure → Option Structure

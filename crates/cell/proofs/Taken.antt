@@ -6,8 +6,7 @@ use Prim.Native.Nat.{suc}
 use lib.Dec.{T}
 use lib.ListN.{length}
 use lib.IntN.{ℤ}
-use lib.Signed.{_≤ℤ_}
-use lib.Ieee.{Float, binary64, fits, le}
+use lib.Ieee.{Float, binary64, fits}
 use lib.Ieee.Positive.{positive}
 use Rattle.units.specs.Point.{Point}
 use Rattle.conversion.specs.declared.GdsRoundingPolicy.{GdsRoundingPolicy}
@@ -15,7 +14,7 @@ use Rattle.conversion.specs.Convert.{databaseValue}
 use Rattle.conversion.proofs.MadeLaws.{Yields}
 use Rattle.monotone.proofs.OrderLaws.{values-order}
 use Rattle.cell.specs.Draws.{Each, done, more}
-use Rattle.cell.specs.Edges.{Axis, alongX, alongY, on, Stands, here, later}
+use Rattle.cell.specs.Edges.{Axis, alongX, alongY, on, Stands, here, later, InOrder}
 
 pub each-append : {A B : Type 0} {R : A → B → Type 0} {s u : List A} {t v : List B} → Each R s t → Each R u v → Each R (s ++ u) (t ++ v)
 each-append done k = k
@@ -43,8 +42,7 @@ module _ (policy : GdsRoundingPolicy) (d : Float) where
   taken-stands axis {p} {q} (more {a = e} {b = w} r h) (here f g) = subst (λ (z : ℤ). TakenBy (some p) z) g (subst (λ (o : Option Float). TakenBy o (on axis w)) f (taken-on axis r))
   taken-stands axis (more r h) (later k) = taken-stands axis h k
 
-  pub taken-order : T (fits binary64 d) → T (positive d) → {s : List (Point (Option Float))} {t : List (Point ℤ)} → Each TakenPoint s t
-      → (axis : Axis) (p q : Float) (a b : ℤ) → Stands axis p a s t → Stands axis q b s t → T (le p q) → a ≤ℤ b
+  pub taken-order : T (fits binary64 d) → T (positive d) → {s : List (Point (Option Float))} {t : List (Point ℤ)} → Each TakenPoint s t → InOrder s t
   taken-order fd pd h axis p q a b k l =
       let u = taken-stands axis h k in
       let v = taken-stands axis h l in

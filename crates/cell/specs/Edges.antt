@@ -84,15 +84,18 @@ pub data Stands (axis : Axis) (p : Float) (q : ℤ) : List (Point (Option Float)
 
 -- ---- the claim
 
--- The bytes, read alone, are a structure with a point for each of the sheet's: where p is drawn at a and q at b on one axis, and p is not greater than q, a is not greater than b.
+-- on each axis: where p stands at a and q at b, and p is not greater than q, a is not greater than b
+abbrev pub InOrder : List (Point (Option Float)) → List (Point ℤ) → Type 0
+InOrder s t = (axis : Axis) (p q : Float) (a b : ℤ) → Stands axis p a s t → Stands axis q b s t → T (le p q) → a ≤ℤ b
+
+-- The bytes, read alone, are a structure with a point for each of the sheet's, and these stand in the order of their physical values.
 pub record KeepsEdges (d : Float) (sheet bytes : List ℕ) : Type 0 where
   pub cell : Cell
   pub held : cellOf sheet ≡ some cell
   pub structure : D.Structure
   pub reads : structureOf bytes ≡ some structure
   pub asMany : length (cellEdges d (cell .elements)) ≡ length (drawnPoints (drawnOf structure .elements))
-  pub inOrder : (axis : Axis) (p q : Float) (a b : ℤ) → Stands axis p a (cellEdges d (cell .elements)) (drawnPoints (drawnOf structure .elements))
-      → Stands axis q b (cellEdges d (cell .elements)) (drawnPoints (drawnOf structure .elements)) → T (le p q) → a ≤ℤ b
+  pub inOrder : InOrder (cellEdges d (cell .elements)) (drawnPoints (drawnOf structure .elements))
 
 -- For every policy, unit, sheet of bytes and pair of buffers: where the answer is a structure of n bytes, the output's first n bytes keep the cell's edges in order.
 -- (Every f64 fits binary64, and every &[u8] is of bytes.)
