@@ -1,6 +1,6 @@
 -- The edges of a cell of every kind and the points that it draws are those by hand; a structure that draws two points the other way round, equal ones apart, or one too few, does not keep a cell's edges. Computed. Assumes nothing.
-use mathlib.Core.Path.{_≡_, refl, subst}
-use mathlib.Core.Option.{Option, none, some}
+use mathlib.Core.Path.{_≡_, refl, sym, _∙_, subst}
+use mathlib.Core.Option.{Option, none, some, Option·some-injective}
 use mathlib.Core.List.{List}
 use Prim.Native.Nat.{ℕ}
 use native.Mathlib.Omega.{arith}
@@ -34,13 +34,10 @@ edges-passed = refl
 
 -- ---- what does not keep the edges
 
-some-same : {A : Type 0} {a b : A} {x : Option A} → x ≡ some a → x ≡ some b → a ≡ b
-some-same e f = cc
-
 -- a sheet holds one cell and bytes are one structure, so that the claim is of these
 module _ {d : Float} {sheet bytes : List ℕ} (k : KeepsEdges d sheet bytes) (c : Cell) (s : Structure) (held : cellOf sheet ≡ some c) (reads : structureOf bytes ≡ some s) where
   of-these : (P : Cell → Structure → Type 0) → P (k .cell) (k .structure) → P c s
-  of-these P h = subst (λ (z : Structure). P c z) (some-same (k .reads) reads) (subst (λ (z : Cell). P z (k .structure)) (some-same (k .held) held) h)
+  of-these P h = subst (λ (z : Structure). P c z) (Option·some-injective (k .structure) s (sym (k .reads) ∙ reads)) (subst (λ (z : Cell). P z (k .structure)) (Option·some-injective (k .cell) c (sym (k .held) ∙ held)) h)
 
   as-many : length (cellEdges d (c .elements)) ≡ length (drawnPoints (drawnOf s .elements))
   as-many = of-these (λ c s. length (cellEdges d (c .elements)) ≡ length (drawnPoints (drawnOf s .elements))) (k .asMany)

@@ -39,7 +39,7 @@ use Rattle.cell.specs.Draws.{AlikeInstances, AlikeShape, AlikePath, Alik
 use Rattle.cell.specs.Draws as W
 use Rattle.cell.specs.Draws.{Each}
 use Rattle.cell.specs.Edges.{edgesAt, arrayEdges, pointEdges, bodyEdges, bodyPoints}
-use Rattle.cell.proofs.Taken.{TakenPoint}
+use Rattle.cell.proofs.Taken.{each-length, TakenPoint}
 use Rattle.cell.proofs.PartLaws.{properties-alike, TransformFor, transform-alike, range-long, point-alike, points-alike, length-alike}
 
 -- ---- limits
@@ -106,7 +106,7 @@ module _ (policy : GdsRoundingPolicy) (d : Float) (fd : T (fits binary64 d)) (pd
       let k3 = steps (k2 .then) in
       let lt = layered (e .layer) (e .datatype) (k2 .value) (k2 .first) in
       let ps = points-alike policy d fd pd 0 (e .points) (k3 .value) (h .points .each) (k3 .first) in
-      let c : length (k3 .value) ≤ maxPoints = subst (λ (n : ℕ). n ≤ maxPoints) (sym (ps .count)) (le-trans (within-hi least (length (e .points)) most (k1 .passed)) m) in
+      let c : length (k3 .value) ≤ maxPoints = subst (λ (n : ℕ). n ≤ maxPoints) (each-length (ps .alike)) (le-trans (within-hi least (length (e .points)) most (k1 .passed)) m) in
       subst (λ (z : D.Shape). ShapeWritten e z) (made-yields (k3 .then))
       (record {
         alike = record { layer = refl; datatype = refl; points = ps .alike };
@@ -144,7 +144,7 @@ module _ (policy : GdsRoundingPolicy) (d : Float) (fd : T (fits binary64 d)) (pd
       let lb = length-alike policy d fd pd beginField (e .begin) (kb .value) (h .begin) (kb .first) in
       let le = length-alike policy d fd pd endField (e .end) (ke .value) (h .end) (ke .first) in
       let ps = points-alike policy d fd pd 0 (e .points) (kp .value) (h .points .each) (kp .first) in
-      let c : length (kp .value) ≤ maxPoints = subst (λ (n : ℕ). n ≤ maxPoints) (sym (ps .count)) (within-hi minPathPoints (length (e .points)) maxPoints (k1 .passed)) in
+      let c : length (kp .value) ≤ maxPoints = subst (λ (n : ℕ). n ≤ maxPoints) (each-length (ps .alike)) (within-hi minPathPoints (length (e .points)) maxPoints (k1 .passed)) in
       subst (λ (z : D.Path). PathWritten e z) (made-yields (kp .then))
       (record {
         alike = record { layer = refl; datatype = refl; pathType = refl; width = lw .alike; begin = lb .alike; end = le .alike; points = ps .alike };

@@ -201,18 +201,17 @@ module _ (policy : GdsRoundingPolicy) (d : Float) (F : T (fits binary64 d)) (b :
     pub alike : Each (AlikePoint policy d) ps qs
     pub taken : Each (TakenPoint policy d) (pointEdges d ps) qs
     pub fit : All FitPoint qs
-    pub count : length qs ≡ length ps
 
   pub points-alike : (k : ℕ) (ps : List (Point Unit)) (qs : List (Point ℤ)) → All FinePoint ps → Yields (writePoints policy d k ps) qs → PointsFor ps qs
   unfolding writePoints
-  points-alike k [] qs h y = subst (λ (z : List (Point ℤ)). PointsFor [] z) (made-yields y) (record { alike = W.done; taken = W.done; fit = done; count = refl })
+  points-alike k [] qs h y = subst (λ (z : List (Point ℤ)). PointsFor [] z) (made-yields y) (record { alike = W.done; taken = W.done; fit = done })
   points-alike k (p ∷ ps) qs (more h hs) y =
       let k1 = steps y in
       let k2 = steps (k1 .then) in
       let x = point-alike pointField k p (k1 .value) h (k1 .first) in
       let r = points-alike (suc k) ps (k2 .value) hs (k2 .first) in
       subst (λ (z : List (Point ℤ)). PointsFor (p ∷ ps) z) (made-yields (k2 .then))
-      (record { alike = W.more (x .alike) (r .alike); taken = W.more (x .taken) (r .taken); fit = more (x .fit) (r .fit); count = ap suc (r .count) })
+      (record { alike = W.more (x .alike) (r .alike); taken = W.more (x .taken) (r .taken); fit = more (x .fit) (r .fit) })
 
   pub record LengthFor (u : Option Unit) (q : Option ℤ) : Type 0 where
     pub alike : Both (AlikeCoordinate policy d) u q

@@ -1,4 +1,4 @@
--- Points that are conversions of their physical values stand in order on each axis (monotone's `values-order`). Assumes nothing.
+-- Points that are conversions of their physical values stand in order on each axis (monotone's `keeps-order`). Assumes nothing.
 use mathlib.Core.Path.{_≡_, refl, ap, subst}
 use mathlib.Core.Option.{Option, none, some}
 use mathlib.Core.List.{List, _++_}
@@ -10,9 +10,9 @@ use lib.Ieee.{Float, binary64, fits}
 use lib.Ieee.Positive.{positive}
 use Rattle.units.specs.Point.{Point}
 use Rattle.conversion.specs.declared.GdsRoundingPolicy.{GdsRoundingPolicy}
+use Rattle.conversion.specs.Made.{pure}
 use Rattle.conversion.specs.Convert.{databaseValue}
-use Rattle.conversion.proofs.MadeLaws.{Yields}
-use Rattle.monotone.proofs.OrderLaws.{values-order}
+use Rattle.monotone.proofs.OrderLaws.{keeps-order}
 use Rattle.cell.specs.Draws.{Each, done, more}
 use Rattle.cell.specs.Edges.{Axis, alongX, alongY, on, Stands, here, later, InOrder}
 
@@ -28,7 +28,7 @@ module _ (policy : GdsRoundingPolicy) (d : Float) where
   -- q is the database value of p, where there is a p
   abbrev pub TakenBy : Option Float → ℤ → Type 0
   TakenBy none q = Unit {0}
-  TakenBy (some p) q = T (fits binary64 p) × Yields (databaseValue policy d p) q
+  TakenBy (some p) q = T (fits binary64 p) × (databaseValue policy d p ≡ pure q)
 
   pub record TakenPoint (e : Point (Option Float)) (w : Point ℤ) : Type 0 where
     pub x : TakenBy (e .x) (w .x)
@@ -46,4 +46,4 @@ module _ (policy : GdsRoundingPolicy) (d : Float) where
   taken-order fd pd h axis p q a b k l =
       let u = taken-stands axis h k in
       let v = taken-stands axis h l in
-      values-order policy d p q a b fd pd (u .0) (v .0) (u .1) (v .1)
+      keeps-order policy d p q a b fd pd (u .0) (v .0) (u .1) (v .1)

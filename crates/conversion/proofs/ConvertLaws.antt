@@ -1,5 +1,5 @@
 -- Each policy's rounding keeps order, also where it snaps; and what an accepted conversion is: in range, and close to its physical value. Assumes nothing.
-use mathlib.Core.Path.{_≡_, refl, sym, subst}
+use mathlib.Core.Path.{_≡_, refl, sym, ap, _∙_, subst}
 use mathlib.Core.Bool.{Bool, true, false, cond}
 use mathlib.Core.Option.{none, some}
 use Prim.Native.Nat.{ℕ, _+_, _^_, _≤_}
@@ -9,19 +9,22 @@ use lib.IntN.{ℤ, natAbs}
 use lib.Signed.{_≤ℤ_}
 use lib.Ieee.{Float, binary64, fits, div, ofInt}
 use lib.Ieee.Fits.{div-fits, mul-fits}
+use lib.Ieee.Bits.{is-true as on}
 use lib.Ieee.Scale.{finite}
 use lib.Ieee.Positive.{positive}
 use Rattle.binary64.specs.Value.{scaled, roundAway, floorOf, ceilOf}
 use Rattle.binary64.specs.declared.Direction.the-variants as Direction
 use Rattle.binary64.proofs.Order.{rounded-order}
 use Rattle.binary64.proofs.Snapping.{snapping-order}
+use Rattle.refusal.specs.declared.Refusal.the-variants as R
 use Rattle.units.specs.declared.Unit.{Unit}
 use Rattle.units.specs.declared.Unit.the-variants as U
 use Rattle.units.specs.Physical.{physical}
 use Rattle.units.specs.Point.{endpoint}
 use Rattle.conversion.specs.declared.GdsRoundingPolicy.{GdsRoundingPolicy}
 use Rattle.conversion.specs.declared.GdsRoundingPolicy.the-variants.{Nearest, Floor, Ceil, ErrorIfOffGrid}
-use Rattle.conversion.proofs.MadeLaws.{Yields, made-yields, steps, checked}
+use Rattle.conversion.specs.Made.{pure}
+use Rattle.conversion.proofs.MadeLaws.{Yields, made-yields, steps, checked, need-on, then-pure}
 use Rattle.conversion.specs.Convert.{Spot, onGrid, rounded, inRange, ranged, gridValue, databaseValue, convertPhysical, physicalValue, convertBy, arrayEndpoint}
 use Rattle.conversion.specs.Close.{allowance, Close}
 use Rattle.conversion.proofs.Bound.{Rounds, nearest-rounds, floor-rounds, ceil-rounds, snap-rounds, rounds-close}
@@ -72,7 +75,7 @@ module _ (p d : Float) (P : T (fits binary64 p)) (D : T (fits binary64 d)) (a : 
 
 -- q is accepted for p: it is the database value of p, p is finite, q is a signed 32-bit number, and q is close to p
 pub record Converted (policy : GdsRoundingPolicy) (d p : Float) (q : ℤ) : Type 0 where
-  pub value : Yields (databaseValue policy d p) q
+  pub value : databaseValue policy d p ≡ pure q
   pub physical : T (finite p)
   pub ranged : T (inRange q)
   pub close : Close (allowance policy) d (scaled p) q
@@ -105,12 +108,29 @@ value-passed policy d p q y =
       ranged = k4 .0;
     }
 
+-- what passes every check is accepted, with nothing to report
+pub accept : (policy : GdsRoundingPolicy) (d p : Float) (q : ℤ) → T (finite p) → T (finite (div binary64 p d)) → rounded policy (div binary64 p d) ≡ pure q → T (inRange q) → databaseValue policy d p ≡ pure q
+unfolding databaseValue gridValue ranged
+accept policy d p q f g e r =
+    need-on (finite p) R.NotFinite _ (on (finite p) f)
+    ∙ need-on (finite (div binary64 p d)) R.NotFinite _ (on (finite (div binary64 p d)) g)
+    ∙ then-pure ranged e (need-on (inRange q) R.OutOfRange (pure q) (on (inRange q) r))
+
+rounded-pure : (policy : GdsRoundingPolicy) (s : Float) (q : ℤ) → Yields (rounded policy s) q → rounded policy s ≡ pure q
+unfolding rounded
+rounded-pure Nearest s q y = ap (λ (z : ℤ). pure z) (made-yields y)
+rounded-pure Floor s q y = ap (λ (z : ℤ). pure z) (made-yields y)
+rounded-pure Ceil s q y = ap (λ (z : ℤ). pure z) (made-yields y)
+rounded-pure ErrorIfOffGrid s q y =
+    let k = checked _ y in
+    need-on (onGrid s) R.OffGrid (pure (roundAway s)) (on (onGrid s) (k .passed)) ∙ ap (λ (z : ℤ). pure z) (made-yields (k .then))
+
 -- THE BOUND OF ONE CONVERSION, for every policy, with the policy's allowance
 pub value-converted : (policy : GdsRoundingPolicy) (d p : Float) (q : ℤ) → T (fits binary64 d) → T (positive d) → T (fits binary64 p)
     → Yields (databaseValue policy d p) q → Converted policy d p q
 value-converted policy d p q D b P y =
     let k = value-passed policy d p q y in
-    record { value = y; physical = k .physical; ranged = k .ranged; close = rounded-close p d P D (k .physical) b (k .quotient) policy q (k .rounds) (k .ranged) }
+    record { value = accept policy d p q (k .physical) (k .quotient) (rounded-pure policy (div binary64 p d) q (k .rounds)) (k .ranged); physical = k .physical; ranged = k .ranged; close = rounded-close p d P D (k .physical) b (k .quotient) policy q (k .rounds) (k .ranged) }
 
 pub physical-converted : (policy : GdsRoundingPolicy) (d : Float) (at : Spot) (p : Float) (q : ℤ) → T (fits binary64 d) → T (positive d) → T (fits binary64 p)
     → Yields (convertPhysical policy d at p) q → Converted policy d p q

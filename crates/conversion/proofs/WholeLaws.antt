@@ -8,7 +8,7 @@ use native.Mathlib.Nat.{le-trans, le-of-eq, mul-one, mul-le-mul-right, mul-le-mu
 use native.Mathlib.Omega.{arith}
 use lib.Dec.{T, ltb→lt, lit≤}
 use lib.IntN.{ℤ, pos, negsuc, negℤ, natAbs, one, *ℤ-one, *ℤ-zero, +ℤ-idl, +ℤ-idr, +ℤ-comm, _+ℤ_, _*ℤ_}
-use lib.Ieee.{Float, binary64, div, eq}
+use lib.Ieee.{Float, eq}
 use lib.Ieee.Bits.{is-true as on}
 use lib.Ieee.Scale.{finite}
 use Rattle.binary64.specs.Value.{zero64, one64}
@@ -20,10 +20,11 @@ use Rattle.units.specs.Integer.{integer, integerPoint}
 use Rattle.conversion.specs.declared.GdsRoundingPolicy.{GdsRoundingPolicy}
 use Rattle.conversion.specs.declared.GdsRoundingPolicy.the-variants.{Nearest}
 use Rattle.conversion.specs.Made.{made, pure, _>>_}
-use Rattle.conversion.specs.Convert.{Spot, rounded, inRange, ranged, gridValue, databaseValue, difference, abs, deviations, convertPhysical, physicalValue, convertBy, convertUnit, arrayEndpoint}
+use Rattle.conversion.specs.Convert.{Spot, rounded, inRange, ranged, difference, abs, deviations, convertPhysical, physicalValue, convertBy, convertUnit, arrayEndpoint}
 use Rattle.conversion.specs.Points.{writePoint, writeLength}
 use Rattle.conversion.specs.Array.{physicalPoint, physicalSpacing, physicalAt, turned, endpointPhysical, writePhysical, writeEndpoint, convertArray}
 use Rattle.conversion.proofs.MadeLaws.{need-on, then-pure}
+use Rattle.conversion.proofs.ConvertLaws.{accept}
 use Rattle.conversion.proofs.DeviationLaws.{counts-beside}
 
 -- ---- outside arrays: they pass
@@ -53,14 +54,6 @@ range-abs (negsuc n) h = ltb→lt n (2 ^ 31) h
 
 small : (z : ℤ) → T (inRange z) → natAbs z ≤ 2 ^ 53
 small z h = le-trans (range-abs z h) (lit≤ tt)
-
--- what passes every check is accepted
-accept : (policy : GdsRoundingPolicy) (d p : Float) (q : ℤ) → T (finite p) → T (finite (div binary64 p d)) → rounded policy (div binary64 p d) ≡ pure q → T (inRange q) → databaseValue policy d p ≡ pure q
-unfolding databaseValue gridValue ranged
-accept policy d p q f g e r =
-    need-on (finite p) R.NotFinite _ (on (finite p) f)
-    ∙ need-on (finite (div binary64 p d)) R.NotFinite _ (on (finite (div binary64 p d)) g)
-    ∙ then-pure ranged e (need-on (inRange q) R.OutOfRange (pure q) (on (inRange q) r))
 
 module _ (at : Spot) (p : Float) (z : ℤ) (h : Is p z) (r : T (inRange z)) where
   unreported : pure z ≡ made z (deviations one64 at p z)

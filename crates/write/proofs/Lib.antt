@@ -9,3 +9,4 @@ pub mod PutHeadLaws
 pub mod CellLaws
 pub mod StructureLaws
 pub mod RoomLaws
+pub mod EdgesLaws
