@@ -6,11 +6,16 @@
 For each case of the files (their form stands in tools/pack_cases.py): a sheet whose form is sound goes to text and back,
 and must come out as it went in; an expected stream and its entries are read by stream_to_text.py, which must not
 complain; the answer must be the model's. Then faulty texts and damaged streams must get their message and nothing
-else. The last line counts; the exit status is 0 if nothing was wrong.
+else, and so must wrong uses of bounds.py, which must give the answers of tools/bounds_cases.txt where the static library
+is built. The last line counts; the exit status is 0 if nothing was wrong.
 """
+import os
+import struct
 import sys
 
+import bounds
 import cell_text
+import library
 import model
 import pack_cases
 import sheet as form
@@ -34,10 +39,18 @@ BAD_TEXTS = (
     ('cell "A"\n' + "node 1 2\n" * 16384, 16385, "16,383 elements"),
 )
 
+BAD_USES = (
+    ("", "0 are given"), ("0 --unit 1 --policy 0", "1 is given"), ("0 0 0 --unit 1 --policy 0", "3 are given"), ("0 0 --policy 0", "--unit"),
+    ("0 0 --unit 1", "--policy"), ("0 0 --unit", "after --unit"), ("0 0 --unit 1 --unit 1 --policy 0", "twice"), ("0 0 --foo", "--foo"),
+    ("0 0 --unit 1 --policy foo", "not foo"), ("0 0 --unit 1 --policy 256", "255"), ("0 0 --unit 1 --policy -1", "not -1"),
+    ("x 0 --unit 1 --policy 0", "the lower end"), ("0 1e999 --unit 1 --policy 0", "beyond the doubles"), ("0 0 --unit 0x12 --policy 0", "the database unit"),
+)
+STORED_BOUNDS = os.path.join(os.path.dirname(os.path.abspath(__file__)), "bounds_cases.txt")
+
 
 class Count:
     def __init__(self):
-        self.cases = self.there_and_back = self.ill = self.streams = self.entries = self.damaged = self.wrong = 0
+        self.cases = self.there_and_back = self.ill = self.streams = self.entries = self.damaged = self.bounds = self.wrong = 0
 
     def fail(self, what):
         self.wrong += 1
@@ -92,6 +105,37 @@ def bad_texts(count):
                 count.fail(f"{text[:60]!r}: {bad}")
 
 
+def bad_uses(count):
+    for words, why in BAD_USES:
+        try:
+            bounds.numbers(*bounds.arguments(words.split()))
+            count.fail(f"bounds.py accepts: {words}")
+        except bounds.Wrong as wrong:
+            if why not in str(wrong):
+                count.fail(f"bounds.py {words}: {wrong}")
+
+
+def stored_bounds(count):
+    """What bounds.py says of each stored case. Without the library nothing can be asked, and a line says so."""
+    try:
+        functions = library.load()
+    except library.Missing as missing:
+        print(f"bounds.py is not tried on cases: {missing}")
+        return
+    with open(STORED_BOUNDS, encoding="ascii") as f:
+        for line in f:
+            if line.startswith("#"):
+                continue
+            name, given, answer = line.rstrip("\n").split(" ", 2)
+            count.bounds += 1
+            said, status = bounds.told(functions, *struct.unpack(">Bddd", bytes.fromhex(given)))
+            word, *values = answer.split(" ")
+            if word == "ok" and (said, status) != (f"least {values[0]}, greatest {values[1]}", 0):
+                count.fail(f"{name}: {answer}, and bounds.py says: {said}")
+            if word == "no" and not (said.startswith((f"refusal {values[0]}:", f"refusal {values[0]},")) and status == 1):
+                count.fail(f"{name}: {answer}, and bounds.py says: {said}")
+
+
 def one_case(name, given, lines, count):
     count.cases += 1
     there_and_back(name, given[9:], count)
@@ -107,6 +151,8 @@ def main():
         sys.exit("check_tools.py: files of cases, please")
     count = Count()
     bad_texts(count)
+    bad_uses(count)
+    stored_bounds(count)
     try:
         for path in sys.argv[1:]:
             pack_cases.pack(path)
@@ -115,7 +161,7 @@ def main():
     except (OSError, pack_cases.Bad) as fault:
         sys.exit(f"check_tools.py: {form.plain(fault)}")
     print(f"{count.cases} cases: {count.there_and_back} sheets there and back, {count.ill} ill-formed; {count.streams} streams and "
-          f"{count.entries} entries read; {len(BAD_TEXTS)} faulty texts, {count.damaged} cut streams; {count.wrong} wrong")
+          f"{count.entries} entries read; {len(BAD_TEXTS)} faulty texts, {count.damaged} cut streams; {count.bounds} bounds, {len(BAD_USES)} wrong uses; {count.wrong} wrong")
     sys.exit(count.wrong != 0)
 
 

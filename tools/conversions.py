@@ -1,31 +1,36 @@
 #!/usr/bin/env python3
-"""Known results of conversions to the database grid, for the program `conversions`.
+"""Known results of conversions to the database grid and of lengths within bounds, for the program `conversions`.
 
-A model of convert_unit, convert_physical and checked_array_endpoint of gdsr's write/conversion.rs. Products, quotients
-and differences are Python's own, IEEE doubles; rounding to whole numbers is done exactly, over fractions, and the step
-between neighbours by the bit patterns. Each case is 54 bytes on standard output, numbers with the highest byte first:
+A model of convert_unit, convert_physical and checked_array_endpoint of gdsr's write/conversion.rs, and of document 02's
+request 11. Products, quotients and differences are Python's own, IEEE doubles; rounding to whole numbers is done exactly,
+over fractions, and the step between neighbours by the bit patterns. Where two bounds are few steps apart, every double
+between them is converted. Each case is 54 bytes on standard output, numbers with the highest byte first:
 
-    0  1  what: 0 an integer with its unit, 1 a double with its unit, 2 an array's endpoint
+    0  1  what: 0 an integer with its unit, 1 a double with its unit, 2 an array's endpoint, 3 two bounds
     1  1  policy: 0 nearest, 1 floor, 2 ceiling, 3 strict
     2  8  database unit
-   10  8  the integer (four zeros, then 32 bits); the double; of an endpoint the physical value
-   18  8  the unit; of an endpoint the origin and the spacing, 32 bits each
+   10  8  the integer (four zeros, then 32 bits); the double; of an endpoint the physical value; the lower bound
+   18  8  the unit; of an endpoint the origin and the spacing, 32 bits each; the upper bound
    26  4  of an endpoint the count, else 0
-   30  8  two zero bytes, the refusal's number or 0, 1 if the deviation counts or 0, the database value in 32 bits or 0
-   38  8  the physical value of a deviation that counts, else 0
+   30  8  two zero bytes, the refusal's number or 0, 1 if the deviation counts or 0, the database value in 32 bits or 0; of bounds the least
+   38  8  the physical value of a deviation that counts, else 0; of bounds four zeros and the greatest database value in 32 bits, or 0
    46  8  its error, else 0
 
-With the argument `text` it writes lines to read. tools/README.md says how it is run.
+The cases of bounds_cases.txt, whose answers are another model's, stand last. With the argument `text` it writes lines to
+read. tools/README.md says how it is run.
 """
 import math
+import os
 import random
 import struct
 import sys
 from fractions import Fraction
 
-SOURCE_UNIT, NOT_FINITE, OFF_GRID, OUT_OF_RANGE = 16, 17, 18, 19
+POLICY, DATABASE_UNIT, SOURCE_UNIT, NOT_FINITE, OFF_GRID, OUT_OF_RANGE, BAD_BOUNDS = 1, 2, 16, 17, 18, 19, 32
 NEAREST, FLOOR, CEIL, STRICT = range(4)
-INTEGER, DOUBLE, ENDPOINT = range(3)
+INTEGER, DOUBLE, ENDPOINT, BOUNDS = range(4)
+FEW = 64  # doubles between two bounds that are all looked at
+STORED = os.path.join(os.path.dirname(os.path.abspath(__file__)), "bounds_cases.txt")
 
 
 class Refused(Exception):
@@ -40,6 +45,12 @@ def ordered(x):
     """The place of x in the order of the doubles, -0 just below 0."""
     b = bits(x)
     return (1 << 64) - 1 - b if b >> 63 else b + (1 << 63)
+
+
+def double_at(place):
+    """The double at a place in that order."""
+    b = place - (1 << 63) if place >> 63 else (1 << 64) - 1 - place
+    return struct.unpack(">d", struct.pack(">Q", b))[0]
 
 
 def within_one_ulp(x, y):
@@ -98,6 +109,24 @@ def checked_array_endpoint(d, origin, spacing, count, p):
     return deviation(d, p, in_range(origin + spacing * count))
 
 
+def convert_bounds(policy, d, lower, upper):
+    """(least, greatest) database value of all doubles between the two"""
+    if policy > STRICT:
+        raise Refused(POLICY)
+    if not (math.isfinite(d) and d > 0):
+        raise Refused(DATABASE_UNIT)
+    if not (math.isfinite(lower) and math.isfinite(upper)):
+        raise Refused(NOT_FINITE)
+    if lower > upper or policy == STRICT and lower != upper:
+        raise Refused(BAD_BOUNDS)
+    least, greatest = (convert_physical(policy, d, end)[0] for end in (lower, upper))
+    places = sorted((ordered(lower), ordered(upper)))  # +0 and -0 may stand the other way round
+    if places[1] - places[0] < FEW:
+        every = [convert_physical(policy, d, double_at(place))[0] for place in range(places[0], places[1] + 1)]
+        assert (min(every), max(every)) == (least, greatest), (policy, d, lower, upper)
+    return least, greatest
+
+
 def case(what, policy, d, operands, answer):
     try:
         q, counts, p, error = answer()
@@ -123,6 +152,30 @@ def endpoint(d, origin, spacing, count, p):
     operands = struct.pack(">diiI", p, origin, spacing, count)
     record, said = case(ENDPOINT, NEAREST, d, operands, lambda: checked_array_endpoint(d, origin, spacing, count, p))
     return record, f"unit {d!r}: {origin} + {count} * {spacing}, {p!r} -> {said}"
+
+
+def bounds(policy, d, lower, upper):
+    try:
+        least, greatest = convert_bounds(policy, d, lower, upper)
+        known, said = struct.pack(">xxBBiIIQ", 0, 0, least, 0, greatest & 0xffffffff, 0), f"{least} to {greatest}"
+    except Refused as refused:
+        known, said = struct.pack(">xxBBiQQ", refused.args[0], 0, 0, 0, 0), f"refused {refused.args[0]}"
+    record = struct.pack(">BBdddI", BOUNDS, policy, d, lower, upper, 0) + known
+    return record, f"policy {policy} unit {d!r}: from {lower!r} to {upper!r} -> {said}"
+
+
+def stored_bounds():
+    """Another model's cases; this one's answer must be the same."""
+    with open(STORED, encoding="ascii") as f:
+        for line in f:
+            if line.startswith("#"):
+                continue
+            name, given, answer = line.rstrip("\n").split(" ", 2)
+            record, said = bounds(*struct.unpack(">Bddd", bytes.fromhex(given)))
+            told = "refused " + answer[3:] if answer.startswith("no ") else " to ".join(answer.split(" ")[1:])
+            if not said.endswith(f"-> {told}"):
+                sys.exit(f"conversions.py: {name}: stored {answer}, and here {said}")
+            yield record, f"{name}: {said}"
 
 
 def values():
@@ -160,6 +213,41 @@ def values():
         yield 1e-9, r.randrange(-(2**31), 2**31), 1e-10
 
 
+def pairs():
+    """(policies, database unit, lower, upper)"""
+    every, some, most, least = range(4), (NEAREST, STRICT), sys.float_info.max, 5e-324
+    up, down = (lambda x, k=1: double_at(ordered(x) + k)), (lambda x, k=1: double_at(ordered(x) - k))
+    # neighbours and their order
+    for x in (0.0, -0.0, 0.5, 1.0, -3.0):
+        for y in (down(x), x, -x, up(x), up(x, 2)):
+            yield every, 1.0, x, y
+    # not finite: an end, a quotient
+    for x in (math.nan, math.inf, -math.inf):
+        for lower, upper in ((x, 0.0), (0.0, x), (x, -x)):
+            yield some, 1.0, lower, upper
+    for x in (most / 2, up(most / 2)):
+        for lower, upper in ((-x, 0.0), (0.0, x), (x, x), (x, 0.0), (-x, 1e250), (-1e250, x)):
+            yield some, 0.5, lower, upper
+    # the ends of 32 bits
+    for x in (2147483647.5, 2147483648.0):
+        for y in (down(x, 2), down(x), x, up(x)):
+            for lower, upper in ((0.0, y), (-y, 0.0), (y, y)):
+                yield every, 1.0, lower, upper
+    # the least unit and the greatest
+    for x in (least, most):
+        for lower, upper in ((-x, x), (x, -x)):
+            yield every, x, lower, upper
+    # nanometres, a lower and an upper length
+    r = random.Random(11)
+    for _ in range(8):
+        x, width = round(r.uniform(-1000, 1000), 3) * 1e-6, r.choice((0.0, 1e-10, 2.5e-9, 3e-6))
+        yield every, 1e-9, x - width, x + width
+    # the policy's number and the unit
+    for d in (1.0, 0.0, -0.0, -least, math.nan, math.inf):
+        for lower in (0.0, math.nan):
+            yield (STRICT, 4, 255), d, lower, 0.0
+
+
 def cases():
     for d, value, unit in values():
         for policy in range(4):
@@ -181,6 +269,10 @@ def cases():
         (1e-9, -3, 3, 1, 5e-324),
     ):
         yield endpoint(d, origin, spacing, count, p)
+    for policies, d, lower, upper in pairs():
+        for policy in policies:
+            yield bounds(policy, d, lower, upper)
+    yield from stored_bounds()
 
 
 def main():

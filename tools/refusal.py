@@ -1,5 +1,5 @@
 #!/usr/bin/env python3
-"""Says what a refusal means: number and block, as the program `structure` prints them. A convenience, outside the proof.
+"""Says what a refusal means: number and block, as the program `structure` prints them; 32 is of bounds.py. A convenience, outside the proof.
 
     refusal.py NUMBER [BLOCK]     a few lines about one
     refusal.py                    the whole table
@@ -12,7 +12,7 @@ CALLER, SHEET_MAKER, DESIGNER = "the caller", "the sheet maker", "the designer"
 FIRST, LAST = "before anything else", "after every block has passed"
 
 # number: who can cause it, what it means, where it comes in the order, which blocks it can name
-ONCE, HEAD, ANY, ELEMENT = "0", "0", "0 or more", "1 or more"
+ONCE, HEAD, ANY, ELEMENT, NO_CELL = "0", "0", "0 or more", "1 or more", "none"
 TABLE = {
     1: (CALLER, "the policy is above 3", FIRST, ONCE),
     2: (CALLER, "the database unit d is not finite and positive", "after 1", ONCE),
@@ -42,6 +42,8 @@ TABLE = {
     20: (DESIGNER, "a polygon's first and last point differ after conversion", "after all points have been converted", ELEMENT),
     21: (CALLER, "the output is too short for the structure (the program's has 16,384 bytes)", LAST, ONCE),
     22: (CALLER, "the report is too short for the entries, 33 bytes each (the program's has 8,192 bytes)", "after 21", ONCE),
+    32: (CALLER, "the lower end is above the upper, or the policy is strict and the ends are not equal",
+         "of two bounds alone: after 17 of an end that is not finite, before the ends' other checks", NO_CELL),
 }
 
 
@@ -51,7 +53,10 @@ def block_words(block):
 
 def about(number, block=None):
     who, meaning, order, blocks = TABLE[number]
-    lines = [f"refusal {number}: {meaning}", f"caused by: {who}", f"order: {order}", "both buffers stay as they were"]
+    lines = [f"refusal {number}: {meaning}", f"caused by: {who}", f"order: {order}"]
+    if blocks == NO_CELL:
+        return lines + ([f"but refusal {number} is of no cell, and comes with no block: was this read rightly?"] if block is not None else [])
+    lines.append("both buffers stay as they were")
     if block is not None:
         lines.append(block_words(block))
         if blocks == "0" and block or blocks == ELEMENT and not block:
@@ -78,7 +83,7 @@ def main():
     else:
         number = whole_number(given[0], "a refusal")
         if number not in TABLE:
-            sys.exit(f"refusal.py: there is no refusal {number}; they run from 1 to {max(TABLE)}")
+            sys.exit(f"refusal.py: there is no refusal {number}; they run from 1 to 22, and 32")
         print("\n".join(about(number, whole_number(given[1], "a block") if len(given) == 2 else None)))
 
 

@@ -1,5 +1,6 @@
 // Writes document 01's array: origin (0.5, 0), spacing (10.5, 0), 4 columns, 1 row, to the nearest grid point of d = 1.
 // Prints the structure and the one report entry, and measures first, as a caller who owns the memory does.
+// Then asks where the column spacing may come to lie if etching leaves it within 10.25 to 10.75, and with the ends exchanged.
 #include "ravenvanity.h"
 #include <stdio.h>
 #include <stdlib.h>
@@ -84,5 +85,11 @@ int main(void) {
     number = ravenvanity_write_cell(sheet, used, out, length - 1, report, report_length, &block, &length, &entries, &greatest, 0, 1);
     printf("one byte less: %d\n", number);
     free(out), free(report);
+
+    int32_t least, greatest_value;
+    number = ravenvanity_convert_bounds(&least, &greatest_value, 0, 1, 10.25, 10.75);
+    printf("10.25 to 10.75: %d %d %d\n", number, least, greatest_value);
+    number = ravenvanity_convert_bounds(&least, &greatest_value, 0, 1, 10.75, 10.25);
+    printf("10.75 to 10.25: %d %d %d\n", number, least, greatest_value);
     return 0;
 }

@@ -1,11 +1,13 @@
-/* The proved GDSII cell writer: document 01 has the cell sheet, the refusals and the report entry.
+/* The proved GDSII cell writer, and lengths within bounds: document 01 has the cell sheet, the refusals and the report
+ * entry, document 02 the bounds (its request 11).
  *
- * No pointer may be NULL, not even with length 0; the sheet, the two buffers and the four answers must not overlap.
+ * No pointer may be NULL, not even with length 0; the sheet, the two buffers and the answers must not overlap.
  * Nothing else is asked of a caller: every sheet, number and length has an answer. Nothing is kept between calls, no
  * memory is taken, and threads may call at the same time.
  *
  * policy: 0 nearest, 1 floor, 2 ceiling, 3 strict. d: the database unit.
- * Both return 0 where the cell is accepted, else the refusal's number, 1 to 22. All four answers are always written:
+ * The two for cells return 0 where the cell is accepted, else the refusal's number, 1 to 22. All four answers are always
+ * written:
  *     accepted: *block = 0, *length and *entries of the structure and the report, *greatest error (0 if none)
  *     refused:  *block (0 if none), *length = 0, *entries = 0, *greatest = 0
  */
@@ -34,6 +36,16 @@ uint8_t ravenvanity_write_cell(const uint8_t *sheet, size_t sheet_length,
                                uint8_t *report, size_t report_length,
                                size_t *block, size_t *length, size_t *entries, double *greatest,
                                uint8_t policy, double d);
+
+/* The least and the greatest database value over all doubles from lower to upper, both included, in physical units.
+ * Returns 0 where there is a range: each of the two values is that of some double in it, and every double in it is
+ * accepted with a value from *least to *greatest. Else the refusal's number, and *least = *greatest = 0:
+ *     1  policy above 3                            2  d not finite and positive
+ *    17  an end, or its quotient by d, not finite  32  lower above upper, or strict with unequal ends
+ *    18  an end off the grid under strict          19  an end beyond signed 32 bits
+ * in the order 1, 2, 17 of an end, 32, then the lower end's 17 of the quotient, 18, 19, then the upper's. */
+uint8_t ravenvanity_convert_bounds(int32_t *least, int32_t *greatest,
+                                   uint8_t policy, double d, double lower, double upper);
 
 #ifdef __cplusplus
 }

@@ -1,4 +1,4 @@
-//! Writes document 01's smallest cell, and shows a refusal.
+//! Writes document 01's smallest cell, shows a refusal, and asks where a length within bounds may come to lie.
 mod ravenvanity;
 
 fn hex(bytes: &[u8]) -> String {
@@ -27,4 +27,6 @@ fn main() {
         Err(refusal) => println!("{refusal:?}"),
     }
     println!("half of the sheet: {:?}", ravenvanity::written(0, 1.0, &sheet[..20]));
+    println!("10.25 to 10.75: {:?}", ravenvanity::convert_bounds(0, 1.0, 10.25, 10.75));
+    println!("10.75 to 10.25: {:?}", ravenvanity::convert_bounds(0, 1.0, 10.75, 10.25));
 }

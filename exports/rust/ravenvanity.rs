@@ -1,10 +1,11 @@
-//! The proved GDSII cell writer, for Rust. Document 01 has the cell sheet, the refusals and the report entry.
+//! The proved GDSII cell writer and lengths within bounds, for Rust. Document 01 has the cell sheet, the refusals and the
+//! report entry, document 02 the bounds (its request 11).
 //! The borrow checker sees to what the C interface asks: no null pointer and no overlap.
 
 /// The bytes of one report entry.
 pub const ENTRY_LENGTH: usize = 33;
 
-/// Document 01's number of a refusal, and the block it is about (0 if none).
+/// The documents' number of a refusal, and the block it is about (0 if none).
 #[derive(Clone, Copy, Debug, PartialEq, Eq)]
 pub struct Refusal {
     pub number: u8,
@@ -20,6 +21,13 @@ pub struct Accepted {
     pub entries: usize,
     /// The greatest error, 0 if none.
     pub greatest: f64,
+}
+
+/// The least and the greatest database value of a range.
+#[derive(Clone, Copy, Debug, PartialEq, Eq)]
+pub struct Range {
+    pub least: i32,
+    pub greatest: i32,
 }
 
 unsafe extern "C" {
@@ -47,6 +55,7 @@ unsafe extern "C" {
         policy: u8,
         d: f64,
     ) -> u8;
+    fn ravenvanity_convert_bounds(least: &mut i32, greatest: &mut i32, policy: u8, d: f64, lower: f64, upper: f64) -> u8;
 }
 
 fn answer(number: u8, block: usize, accepted: Accepted) -> Result<Accepted, Refusal> {
@@ -106,4 +115,15 @@ pub fn written(policy: u8, d: f64, sheet: &[u8]) -> Result<(Vec<u8>, Vec<u8>, Ac
     let mut report = vec![0; accepted.entries * ENTRY_LENGTH];
     write_cell(policy, d, sheet, &mut out, &mut report)?;
     Ok((out, report, accepted))
+}
+
+/// The least and the greatest database value over all doubles from `lower` to `upper`, both included, in physical units.
+/// Both are the value of some double in the range, and no double in it is refused. Refusals: 1, 2, 17, 18, 19, and 32 where
+/// the lower end is above the upper or the policy is strict and the ends are not equal.
+#[allow(dead_code)] // for users; the harness compares cells
+pub fn convert_bounds(policy: u8, d: f64, lower: f64, upper: f64) -> Result<Range, Refusal> {
+    let mut range = Range { least: 0, greatest: 0 };
+    // SAFETY: both pointers are of live fields, which do not overlap.
+    let number = unsafe { ravenvanity_convert_bounds(&mut range.least, &mut range.greatest, policy, d, lower, upper) };
+    if number == 0 { Ok(range) } else { Err(Refusal { number, block: 0 }) }
 }

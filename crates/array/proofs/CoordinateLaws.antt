@@ -27,7 +27,7 @@ use Rattle.conversion.specs.Fold.{run}
 use Rattle.conversion.specs.Made.{Made, refused, made, pure, need, _>>=_, _>>_}
 use Rattle.conversion.specs.Points.{spot}
 use Rattle.conversion.proofs.FoldLaws.{run-pure}
-use Rattle.conversion.proofs.MadeLaws.{pure-then, refused-then}
+use Rattle.conversion.proofs.MadeLaws.{refused-on, pure-on}
 use Rattle.sheet.specs.Form.{absentKind}
 use Rattle.forms.specs.Place.{pointAt, spacingAt}
 use Rattle.writing.proofs.StepLaws.{run-through}
@@ -40,13 +40,6 @@ use Rattle.array.specs.declared.Converted.the-variants as C
 use Rattle.array.specs.Corners.{converted, Converts, endOf, Ends}
 
 -- ---- physical values
-
-module _ {A B : Type 0} (m : Made A) (f : A → Made B) where
-  pub refused-on : (x : Refusal) → refused x ≡ m → refused x ≡ m >>= f
-  refused-on x h = sym (refused-then x f) ∙ ap (λ (n : Made A). n >>= f) h
-
-  pub pure-on : (a : A) → pure a ≡ m → f a ≡ m >>= f
-  pure-on a h = sym (pure-then a f) ∙ ap (λ (n : Made A). n >>= f) h
 
 module _ (p : Point U.Unit) (v : PhysicalValue) (h : physicalOf v ≡ physicalValue (p .x)) where
   abbrev with-y : Float → Made (Point Float)

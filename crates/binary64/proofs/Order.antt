@@ -1,19 +1,21 @@
 -- Order: where p is at most q, p / d is at most q / d for a d above zero (`quotient-order`), and p rounded to a whole number is at most q rounded the same way (`rounded-order`).
+-- Where p is at most q in size and q / d is finite, so is p / d (`quotient-finite`).
 -- `scaled x` is the whole number x * 2 ^ 1074, and `≤ℤ` the order of the whole numbers. Assumes nothing.
-use mathlib.Core.Path.{sym, _∙_, subst}
+use mathlib.Core.Path.{_≡_, sym, ap, _∙_, subst}
 use mathlib.Core.Logic.{inl, inr}
-use mathlib.Core.Bool.{Bool, true, false}
+use mathlib.Core.Bool.{Bool, true, false, cond}
 use Prim.Native.Nat.{ℕ, zero, suc, _+_, _*_, _/_, _^_, _≤_, _<_, zero-le, suc-le-suc}
-use native.Mathlib.Nat.{le-trans, le-of-eq, le-of-suc-le-suc, not-suc-le-zero, mul-assoc, mul-comm, mul-left-comm, mul-pos, mul-le-mul-right, le-of-mul-le-mul-right, eq-zero-or-pos, zero-mul}
+use native.Mathlib.Nat.{le-trans, le-of-eq, le-antisymm, le-of-suc-le-suc, not-suc-le-zero, mul-assoc, mul-comm, mul-left-comm, mul-pos, mul-le-mul-right, le-of-mul-le-mul-right, eq-zero-or-pos, zero-mul}
 use native.Mathlib.Omega.{arith}
-use lib.Dec.{T, leb→le, le→leb, lit<}
+use lib.Dec.{T, ltb, ltb→lt, leb→le, le→leb, lit<}
 use lib.Pow.{pow-pos}
 use lib.IntN.{ℤ, pos, negsuc, negℤ}
 use lib.Signed.{_≤ℤ_}
-use lib.Ieee.{Float, nan, inf, fin, Format, binary64, low, size, round, div, fits}
-use lib.Ieee.Exact.{HasValue}
+use lib.Ieee.{Float, nan, inf, fin, Format, binary64, prec, low, size, odd, units, round, div, lt, eq, le, fits}
+use lib.Ieee.Fits.{round-is}
+use lib.Ieee.Exact.{HasValue, units-val}
 use lib.Ieee.Nearest.{div-mono}
-use lib.Ieee.Order.{transfer, round-mono}
+use lib.Ieee.Order.{drop, kept, transfer, round-mono}
 use lib.Ieee.Positive.{num, den, den-pos, positive, above, above-of-le, own-value, positive-of-value, value-pos, values-of-le}
 use lib.Ieee.Scale.{grid, overflow, finite, round-val}
 use Rattle.binary64.specs.Value.{unit, sizeOf, halfUp, negative, signed, scaled, floorDiv, floorOf, ceilOf, roundAway}
@@ -25,6 +27,12 @@ use Rattle.binary64.proofs.Quotient.{div-is, quotient-sign, quotient-si
 use Rattle.binary64.proofs.ValueLaws.{exact}
 
 -- ---- the order of whole numbers, by sign and size
+
+pub both-orders : (a b : ℤ) → a ≤ℤ b → b ≤ℤ a → a ≡ b
+both-orders (pos m) (pos n) h k = ap pos (le-antisymm (leb→le m n (h .le)) (leb→le n m (k .le)))
+both-orders (pos m) (negsuc n) h k = absurd (h .le)
+both-orders (negsuc m) (pos n) h k = absurd (k .le)
+both-orders (negsuc m) (negsuc n) h k = ap negsuc (le-antisymm (leb→le m n (k .le)) (leb→le n m (h .le)))
 
 -- ±m ≤ ±n
 abbrev pub Below : Bool → ℕ → Bool → ℕ → Type 0
@@ -97,6 +105,27 @@ grid-order f a b c d B D A C h = elim (eq-zero-or-pos (grid f a b)) [
       le-of-mul-le-mul-right (values-of-le x y (grid f a b) (2 ^ low f) (grid f c d) (2 ^ low f) X (finite-above y (above-of-le x y X l) (has-finite y false (grid f c d) (2 ^ low f) v)) u v l) (pow-pos (low f))
 ]
 
+-- what rounds to at most a finite value does not overflow
+under-of-le : (f : Format) (a c : ℕ) (y : Float) → T (finite y) → T (le (round f false a c) y) → grid f a c < overflow f
+unfolding units le lt eq
+under-of-le f a c y g h =
+    go (ltb (grid f a c) (overflow f)) (ltb→lt (grid f a c) (overflow f)) y g
+    (subst (λ (z : Float). T (le z y)) (round-is f false a c) h)
+  where
+    go : (t : Bool) → (T t → grid f a c < overflow f) → (y : Float) → T (finite y)
+        → T (le (cond t (odd (suc (prec f)) false (kept (prec f) (a * 2 ^ low f) c) (drop (prec f) (a * 2 ^ low f) c) (low f)) (inf false)) y) → grid f a c < overflow f
+    go true k y g h = k tt
+    go false k nan g h = absurd g
+    go false k (inf s) g h = absurd g
+    go false k (fin s m e) g h = absurd h
+
+-- and is finite with either sign
+under-finite : (f : Format) (s : Bool) (a c : ℕ) → grid f a c < overflow f → T (finite (round f s a c))
+under-finite f s a c h =
+    let q = kept (prec f) (a * 2 ^ low f) c in
+    let k = drop (prec f) (a * 2 ^ low f) c in
+    subst (λ (z : Float). T (finite z)) (sym (round-is f s a c)) (has-finite (units f s q k) s (grid f a c) (2 ^ low f) (units-val f s q k h))
+
 -- ---- the quotient
 
 -- the fractions of two doubles, by their sizes
@@ -105,6 +134,10 @@ cross x y X Y h = transfer (num x) (num y) (den x) (den y) (sizeOf x) (sizeOf y)
 
 none : (x : Float) → T (fits binary64 x) → sizeOf x ≤ 0 → num x ≤ 0
 none x X h = le-of-mul-le-mul-right (le-trans (le-of-eq (sym (exact x X))) (le-trans (mul-le-mul-right (den x) h) (le-of-eq (zero-mul (den x) ∙ sym (zero-mul unit))))) (pow-pos 1074)
+
+-- m / i ≤ n / j, both multiplied by l / k
+times : (m n i j k l : ℕ) → m * j ≤ n * i → m * l * (k * j) ≤ n * l * (k * i)
+times m n i j k l h = simp (mul-assoc, mul-comm, mul-left-comm) (simp mul-assoc at (mul-le-mul-right (k * l) h))
 
 module _ (d : Float) (D : T (fits binary64 d)) (b : T (positive d)) where
   divisor-pos : (p : Float) → 0 < num d * den p
@@ -123,17 +156,25 @@ module _ (d : Float) (D : T (fits binary64 d)) (b : T (positive d)) where
   size-order p q P Q f g s t h =
       le-trans (size-most p (num q * den d) (num d * den q) P f s (divisor-pos q) (under q g t) (times (num p) (num q) (den p) (den q) (num d) (den d) (cross p q P Q h)))
       (le-of-eq (sym (quotient-size q d Q D g b t)))
-    where
-      times : (m n i j k l : ℕ) → m * j ≤ n * i → m * l * (k * j) ≤ n * l * (k * i)
-      times m n i j k l h = simp (mul-assoc, mul-comm, mul-left-comm) (simp mul-assoc at (mul-le-mul-right (k * l) h))
+
+  -- where q / d is finite, so is p / d for every p that is no larger in size
+  pub quotient-finite : (p q : Float) → T (fits binary64 p) → T (fits binary64 q) → T (finite p) → T (finite q) → T (finite (div binary64 q d)) → sizeOf p ≤ sizeOf q → T (finite (div binary64 p d))
+  quotient-finite p q P Q f g t h =
+      let a = num p * den d in
+      let c = num d * den p in
+      let m = num q * den d in
+      let n = num d * den q in
+      let l = round-mono binary64 a c m n (divisor-pos p) (divisor-pos q) (times (num p) (num q) (den p) (den q) (num d) (den d) (cross p q P Q h)) in
+      let y = under-finite binary64 false m n (under q g t) in
+      subst (λ (x : Float). T (finite x)) (sym (div-is binary64 p d f b)) (under-finite binary64 (negative p) a c (under-of-le binary64 a c (round binary64 false m n) y l))
 
   size-none : (p : Float) → T (fits binary64 p) → T (finite p) → T (finite (div binary64 p d)) → sizeOf p ≤ 0 → sizeOf (div binary64 p d) ≤ 0
   unfolding size
-  size-none p P f s h = size-most p 0 1 P f s (lit< tt) (lit< tt) (times (num p) (den d) (num d * den p) (none p P h))
+  size-none p P f s h = size-most p 0 1 P f s (lit< tt) (lit< tt) (no-times (num p) (den d) (num d * den p) (none p P h))
     where
-      times : (n l m : ℕ) → n ≤ 0 → n * l * 1 ≤ 0 * m
-      times zero l m h = omega arith
-      times (suc n) l m h = absurd (not-suc-le-zero h)
+      no-times : (n l m : ℕ) → n ≤ 0 → n * l * 1 ≤ 0 * m
+      no-times zero l m h = omega arith
+      no-times (suc n) l m h = absurd (not-suc-le-zero h)
 
   pub quotient-order : (p q : Float) → T (fits binary64 p) → T (fits binary64 q) → T (finite p) → T (finite q)
       → T (finite (div binary64 p d)) → T (finite (div binary64 q d)) → scaled p ≤ℤ scaled q → scaled (div binary64 p d) ≤ℤ scaled (div binary64 q d)

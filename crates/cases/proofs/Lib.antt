@@ -7,3 +7,4 @@ pub mod LimitsPass
 pub mod NeighboursPass
 pub mod ReadPass
 pub mod EdgesPass
+pub mod BoundsPass

@@ -6,3 +6,4 @@ pub mod Limits
 pub mod Neighbours
 pub mod Read
 pub mod Edges
+pub mod Bounds

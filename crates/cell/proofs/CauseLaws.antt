@@ -10,7 +10,6 @@ use lib.ListN.{length}
 use lib.IntN.{ℤ}
 use lib.Ieee.{Float, eq}
 use lib.Ieee.Fits.{and-r}
-use lib.Ieee.Positive.{positive}
 use Rattle.binary64.specs.Value.{zero64, one64}
 use Rattle.refusal.specs.declared.Refusal.{Refusal}
 use Rattle.refusal.specs.Number.{number}
@@ -24,6 +23,8 @@ use Rattle.conversion.specs.declared.Deviation.{Deviation}
 use Rattle.conversion.specs.Made.{Made, refused, made, after, need, _>>=_, _>>_}
 use Rattle.conversion.specs.Convert.{Spot, rounded, ranged, gridValue, databaseValue, convertPhysical, physicalValue, convertBy, convertUnit, arrayEndpoint}
 use Rattle.conversion.specs.Points.{writePoint, writePoints, writeLength}
+use Rattle.conversion.specs.Policy.{callerPolicy}
+use Rattle.conversion.proofs.PolicyLaws.{Caller, unnamed, noUnit, passes, caller}
 use Rattle.conversion.specs.Array.{physicalPoint, physicalSpacing, writePhysical, writeEndpoint, convertArray}
 use Rattle.sheet.specs.Element as S
 use Rattle.sheet.specs.Element.{Head, headOf, elementOf, kindOf}
@@ -34,7 +35,7 @@ use Rattle.cell.specs.Limits.{maxSheetLength}
 use Rattle.cell.specs.Stamps.{stampsFit}
 use Rattle.cell.specs.Names.{isName}
 use Rattle.cell.specs.Write.{layerAndType, writeProperties, encodable, writeReal, writeMagnification, writeAngle, writeTransform, single, writeShape, writePolygon, writeNode, writePath, writeText, writeSref, writeAref, writeReference, writeBody, writeElement}
-use Rattle.cell.specs.Cell.{Result, stopped, written, writeOne, writeBlock, writeBlocks, structureWith, writeHeaded, writeSheet, policyOf, measureWith, measureCell}
+use Rattle.cell.specs.Cell.{Result, stopped, written, writeOne, writeBlock, writeBlocks, structureWith, writeHeaded, writeSheet, measureWith, measureCell}
 use Rattle.cell.proofs.ResultLaws.{Stops, check-stops}
 
 -- ---- steps
@@ -257,10 +258,9 @@ sheet-before policy d sheet = check-stops Before21 (pairsFit sheet) _ _ (λ f. l
 -- Measuring answers with a refusal other than 21 and 22.
 pub measured-before : (policy : ℕ) (d : Float) (sheet : List ℕ) → Stops Before21 (measureCell policy d sheet)
 unfolding measureCell measureWith
-measured-before policy d sheet = go (policyOf policy)
+measured-before policy d sheet = go (callerPolicy policy d) (caller policy d)
   where
-    go : (x : Option GdsRoundingPolicy) → Stops Before21 (measureWith x d sheet)
-    go none = lit≤ tt
-    go (some rounding) =
-        check-stops Before21 (positive d) _ _ (λ f. lit≤ tt)
-        (λ u. check-stops Before21 (leb (length sheet) maxSheetLength) _ _ (λ f. lit≤ tt) (λ l. sheet-before rounding d sheet))
+    go : (m : Made GdsRoundingPolicy) → Caller policy d m → Stops Before21 (measureWith m d sheet)
+    go m (unnamed e) = lit≤ tt
+    go m (noUnit rounding e never) = lit≤ tt
+    go m (passes rounding e u) = check-stops Before21 (leb (length sheet) maxSheetLength) _ _ (λ f. lit≤ tt) (λ l. sheet-before rounding d sheet)

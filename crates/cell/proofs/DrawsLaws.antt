@@ -16,6 +16,8 @@ use Rattle.big_endian.proofs.BytesLaws.{take-bytes, drop-bytes}
 use Rattle.parsing.specs.All.{All, done, more}
 use Rattle.conversion.specs.declared.GdsRoundingPolicy.{GdsRoundingPolicy}
 use Rattle.conversion.specs.Made.{Made, refused, made}
+use Rattle.conversion.specs.Policy.{policyOf, callerPolicy}
+use Rattle.conversion.proofs.PolicyLaws.{Caller, unnamed, noUnit, passes, caller}
 use Rattle.sheet.specs.Element.{Head, Element, kindOf, headOf, elementOf}
 use Rattle.sheet.specs.Blocks.{pairCount, lengthOf, offsetOf, pairsFit, blockOf, blocksFrom}
 use Rattle.sheet.specs.Cell.{consTo, elementsOf, cellFrom, elementBlocks, cellOf}
@@ -30,7 +32,7 @@ use Rattle.cell.specs.Limits.{maxSheetLength}
 use Rattle.cell.specs.Stamps.{stampsFit}
 use Rattle.cell.specs.Names.{isName}
 use Rattle.cell.specs.Write.{writeElement}
-use Rattle.cell.specs.Cell.{Result, stopped, written, writeOne, writeBlock, writeBlocks, structureFor, structureWith, writeHeaded, writeSheet, policyOf, measureWith, measureCell, structureBytes, entryLength, fitting, writeCell, outAfter}
+use Rattle.cell.specs.Cell.{Result, stopped, written, writeOne, writeBlock, writeBlocks, structureFor, structureWith, writeHeaded, writeSheet, measureWith, measureCell, structureBytes, entryLength, fitting, writeCell, outAfter}
 use Rattle.cell.specs.Answer.{answerOf}
 use Rattle.cell.specs.Draws.{Each, AlikeElement, Alike, Draws, Demand3}
 use Rattle.cell.specs.Draws as W
@@ -130,14 +132,14 @@ module _ (policy : ℕ) (d : Float) (sheet : List ℕ) (fd : T (fits binary64 d)
 
   pub measured-drawing : Whenever (Drawing policy d sheet) (measureCell policy d sheet)
   unfolding measureCell measureWith
-  measured-drawing = go (policyOf policy) refl
+  measured-drawing = go (callerPolicy policy d) (caller policy d)
     where
-      go : (x : Option GdsRoundingPolicy) → policyOf policy ≡ x → Whenever (Drawing policy d sheet) (measureWith x d sheet)
-      go none e = tt
-      go (some rounding) e =
-          check-whenever (Drawing policy d sheet) (positive d) _ _
-          (λ pd. check-whenever (Drawing policy d sheet) (leb (length sheet) maxSheetLength) _ _
-          (λ l. whenever-map (sound-drawing rounding e pd) (writeSheet rounding d sheet) (sheet-sound rounding d fd pd sheet all)))
+      go : (m : Made GdsRoundingPolicy) → Caller policy d m → Whenever (Drawing policy d sheet) (measureWith m d sheet)
+      go m (unnamed e) = tt
+      go m (noUnit rounding e never) = tt
+      go m (passes rounding e pd) =
+          check-whenever (Drawing policy d sheet) (leb (length sheet) maxSheetLength) _ _
+          (λ l. whenever-map (sound-drawing rounding e pd) (writeSheet rounding d sheet) (sheet-sound rounding d fd pd sheet all))
 
   pub written-drawing : (out report : ℕ) → Whenever (Drawing policy d sheet) (writeCell policy d sheet out report)
   unfolding writeCell fitting

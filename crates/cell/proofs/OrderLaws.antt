@@ -18,6 +18,8 @@ use Rattle.conversion.specs.declared.GdsRoundingPolicy.{GdsRoundingPolicy}
 use Rattle.conversion.specs.declared.Entry.{Entry}
 use Rattle.conversion.specs.Made.{Made, refused, made}
 use Rattle.conversion.specs.Entry.{entryOf}
+use Rattle.conversion.specs.Policy.{policyOf, callerPolicy}
+use Rattle.conversion.proofs.PolicyLaws.{caller-unnamed, caller-with, caller-unit, Caller, unnamed, noUnit, passes, caller}
 use Rattle.sheet.specs.Element.{Head, Element, kindOf, headOf, elementOf}
 use Rattle.sheet.specs.Blocks.{pairsFit, blockOf}
 use Rattle.sheet.specs.Cell.{elementBlocks}
@@ -26,7 +28,7 @@ use Rattle.cell.specs.Limits.{maxSheetLength}
 use Rattle.cell.specs.Stamps.{stampsFit}
 use Rattle.cell.specs.Names.{isName}
 use Rattle.cell.specs.Write.{writeElement}
-use Rattle.cell.specs.Cell.{Result, stopped, written, inFront, writeOne, writeBlock, writeBlocks, structureWith, writeHeaded, writeSheet, policyOf, measureWith, measureCell, structureBytes, entryLength, fitting, writeCell}
+use Rattle.cell.specs.Cell.{Result, stopped, written, inFront, writeOne, writeBlock, writeBlocks, structureWith, writeHeaded, writeSheet, measureWith, measureCell, structureBytes, entryLength, fitting, writeCell}
 use Rattle.cell.specs.Order.{Accepted, Called, Headed, Reached, First, Ordered}
 use Rattle.cell.specs.Order as O
 use Rattle.cell.proofs.ResultLaws.{Stops, check-stops, check-on, check-off}
@@ -97,15 +99,15 @@ module _ (policy : ℕ) (d : Float) (sheet : List ℕ) (out report : ℕ) where
 
   measured-first : Firsts (measureCell policy d sheet)
   unfolding measureCell measureWith writeSheet
-  measured-first = go (policyOf policy) refl
+  measured-first = go (callerPolicy policy d) (caller policy d)
     where
-      go : (x : Option GdsRoundingPolicy) → policyOf policy ≡ x → Firsts (measureWith x d sheet)
-      go none e = O.policyAbove3 e
-      go (some rounding) e =
-          check-stops _ (positive d) R.DatabaseUnit _ (λ no. O.unitNotPositive rounding e no)
-          (λ u. check-stops _ (leb (length sheet) maxSheetLength) R.SheetSize _ (λ no. O.sheetTooLong rounding e u (not-leb (length sheet) maxSheetLength no))
+      go : (m : Made GdsRoundingPolicy) → Caller policy d m → Firsts (measureWith m d sheet)
+      go m (unnamed e) = O.policyAbove3 e
+      go m (noUnit rounding e never) = O.unitNotPositive rounding e never
+      go m (passes rounding e u) =
+          check-stops _ (leb (length sheet) maxSheetLength) R.SheetSize _ (λ no. O.sheetTooLong rounding e u (not-leb (length sheet) maxSheetLength no))
           (λ l. let at : Called policy d sheet = record { rounding = rounding; named = e; unit = u; size = leb→le (length sheet) maxSheetLength l } in
-          check-stops _ (pairsFit sheet) R.Pairs _ (λ no. O.pairsIllFormed at no) (λ p. headed-first at p (headOf (blockOf sheet 0)) refl)))
+          check-stops _ (pairsFit sheet) R.Pairs _ (λ no. O.pairsIllFormed at no) (λ p. headed-first at p (headOf (blockOf sheet 0)) refl))
 
   written-first : Firsts (writeCell policy d sheet out report)
   unfolding writeCell fitting
@@ -125,8 +127,7 @@ module _ (policy : ℕ) (d : Float) (sheet : List ℕ) (out report : ℕ) where
     called-is : measureCell policy d sheet ≡ writeSheet (at .rounding) d sheet
     unfolding measureCell measureWith
     called-is =
-        ap (λ (x : Option GdsRoundingPolicy). measureWith x d sheet) (at .named)
-        ∙ check-on (positive d) _ _ (on (positive d) (at .unit))
+        ap (λ (m : Made GdsRoundingPolicy). measureWith m d sheet) (caller-with policy d (at .rounding) (at .named) (on (positive d) (at .unit)))
         ∙ check-on (leb (length sheet) maxSheetLength) _ _ (le-leb (length sheet) maxSheetLength (at .size))
 
     -- and 4
@@ -168,12 +169,11 @@ module _ (policy : ℕ) (d : Float) (sheet : List ℕ) (out report : ℕ) where
 
   first-is : (r : Refusal) (k : ℕ) → First policy d sheet out report r k → writeCell policy d sheet out report ≡ stopped r k
   unfolding writeCell fitting measureCell measureWith writeSheet writeHeaded
-  first-is r k (O.policyAbove3 e) = stops r k (ap (λ (x : Option GdsRoundingPolicy). measureWith x d sheet) e)
+  first-is r k (O.policyAbove3 e) = stops r k (ap (λ (m : Made GdsRoundingPolicy). measureWith m d sheet) (caller-unnamed policy d e))
   first-is r k (O.unitNotPositive rounding e never) =
-      stops r k (ap (λ (x : Option GdsRoundingPolicy). measureWith x d sheet) e ∙ check-off (positive d) _ _ (off (positive d) never))
+      stops r k (ap (λ (m : Made GdsRoundingPolicy). measureWith m d sheet) (caller-unit policy d rounding e (off (positive d) never)))
   first-is r k (O.sheetTooLong rounding e u l) =
-      stops r k (ap (λ (x : Option GdsRoundingPolicy). measureWith x d sheet) e
-      ∙ check-on (positive d) _ _ (on (positive d) u)
+      stops r k (ap (λ (m : Made GdsRoundingPolicy). measureWith m d sheet) (caller-with policy d rounding e (on (positive d) u))
       ∙ check-off (leb (length sheet) maxSheetLength) _ _ (lt-leb (length sheet) maxSheetLength l))
   first-is r k (O.pairsIllFormed at never) = stops r k (called-is at ∙ check-off (pairsFit sheet) _ _ (off (pairsFit sheet) never))
   first-is r k (O.headIllFormed at p e) = stops r k (paired-is at none p e)

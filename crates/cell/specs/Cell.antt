@@ -1,20 +1,19 @@
 -- Writing a cell (document 01, "Who can cause which refusal" and "Result three"; `write_cell_with_options` of write/mod.rs). Assumes nothing.
 -- The cell from its 4 on is `writeSheet`; measuring puts 1 to 3 before it, and writing 21 and 22 after that.
-use mathlib.Core.Bool.{Bool, true, false, cond}
+use mathlib.Core.Bool.{Bool, true, false}
 use mathlib.Core.Option.{Option, none, some}
 use mathlib.Core.List.{List, [], _∷_, _++_}
 use Prim.Native.Nat.{ℕ, suc, _*_}
-use lib.Dec.{leb, eqb}
+use lib.Dec.{leb}
 use lib.ListN.{length, drop}
 use lib.Ieee.{Float}
-use lib.Ieee.Positive.{positive}
 use Rattle.refusal.specs.declared.Refusal.{Refusal}
 use Rattle.refusal.specs.declared.Refusal.the-variants as R
 use Rattle.conversion.specs.declared.GdsRoundingPolicy.{GdsRoundingPolicy}
-use Rattle.conversion.specs.declared.GdsRoundingPolicy.the-variants.{Nearest, Floor, Ceil, ErrorIfOffGrid}
 use Rattle.conversion.specs.declared.Entry.{Entry}
 use Rattle.conversion.specs.Entry.{entryOf, reportBytes}
 use Rattle.conversion.specs.Made.{Made, refused, made}
+use Rattle.conversion.specs.Policy.{callerPolicy}
 use Rattle.sheet.specs.Element.{Head, Element, kindOf, headOf, elementOf}
 use Rattle.sheet.specs.Blocks.{pairsFit, blockOf}
 use Rattle.sheet.specs.Cell.{elementBlocks}
@@ -85,24 +84,13 @@ writeSheet policy d sheet = check (pairsFit sheet) R.Pairs (writeHeaded policy d
 
 -- ---- measuring: "Caller, first: 1 policy above 3; 2 d not finite and positive; 3 sheet over 16,777,216 bytes."
 
--- "the policy (0 nearest, 1 floor, 2 ceiling, 3 strict)"
-unfoldable pub policyOf : ℕ → Option GdsRoundingPolicy
-policyOf n =
-    cond (eqb n 0) (some Nearest)
-    (cond (eqb n 1) (some Floor)
-    (cond (eqb n 2) (some Ceil)
-    (cond (eqb n 3) (some ErrorIfOffGrid)
-    none)))
-
-unfoldable pub measureWith : Option GdsRoundingPolicy → Float → List ℕ → Result Structure
-measureWith none d sheet = stopped R.Policy 0
-measureWith (some policy) d sheet =
-    check (positive d) R.DatabaseUnit
-    (check (leb (length sheet) maxSheetLength) R.SheetSize
-    (writeSheet policy d sheet))
+-- after 1 and 2, or what they refuse
+unfoldable pub measureWith : Made GdsRoundingPolicy → Float → List ℕ → Result Structure
+measureWith (refused r) d sheet = stopped r 0
+measureWith (made policy vs) d sheet = check (leb (length sheet) maxSheetLength) R.SheetSize (writeSheet policy d sheet)
 
 unfoldable pub measureCell : ℕ → Float → List ℕ → Result Structure
-measureCell policy d sheet = measureWith (policyOf policy) d sheet
+measureCell policy d sheet = measureWith (callerPolicy policy d) d sheet
 
 -- ---- writing: "Caller, last: 21 output too short; 22 report too short."
 

@@ -18,6 +18,7 @@ use Rattle.units.specs.Physical.{physical, passed}
 use Rattle.conversion.specs.declared.GdsRoundingPolicy.{GdsRoundingPolicy}
 use Rattle.conversion.specs.Array.{spacingAt, turned}
 use Rattle.conversion.specs.Close.{allowance, Close}
+use Rattle.conversion.specs.Policy.{policyOf}
 use Rattle.sheet.specs.Element as S
 use Rattle.sheet.specs.Cell.{Cell, cellOf}
 use Rattle.stream.specs.Strings.{trimmed}
@@ -25,7 +26,7 @@ use Rattle.stream.specs.Structure as D
 use Rattle.stream.specs.Drawn.{Transform, Worth, Drawn, drawnOf, instanceAt}
 use Rattle.stream.specs.Read.{structureOf}
 use Rattle.cell.specs.declared.Answer.the-variants as A
-use Rattle.cell.specs.Cell.{policyOf, writeCell, outAfter}
+use Rattle.cell.specs.Cell.{writeCell, outAfter}
 use Rattle.cell.specs.Answer.{answerOf}
 
 -- ---- "as many and in the same order"; "absent alike"

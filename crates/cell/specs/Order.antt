@@ -15,6 +15,7 @@ use Rattle.conversion.specs.declared.GdsRoundingPolicy.{GdsRoundingPolicy}
 use Rattle.conversion.specs.declared.Deviation.{Deviation}
 use Rattle.conversion.specs.declared.Entry.{Entry}
 use Rattle.conversion.specs.Made.{refused, made}
+use Rattle.conversion.specs.Policy.{policyOf}
 use Rattle.sheet.specs.Element.{Head, Element, headOf, elementOf}
 use Rattle.sheet.specs.Blocks.{pairsFit, blockOf}
 use Rattle.sheet.specs.Cell.{elementBlocks}
@@ -23,7 +24,7 @@ use Rattle.cell.specs.Limits.{maxSheetLength}
 use Rattle.cell.specs.Stamps.{stampsFit}
 use Rattle.cell.specs.Names.{isName}
 use Rattle.cell.specs.Write.{writeElement}
-use Rattle.cell.specs.Cell.{stopped, written, policyOf, measureCell, structureBytes, entryLength, writeCell}
+use Rattle.cell.specs.Cell.{stopped, written, measureCell, structureBytes, entryLength, writeCell}
 
 -- a block that holds an element which none of its checks refuses
 pub record Accepted (policy : GdsRoundingPolicy) (d : Float) (b : List ℕ) : Type 0 where

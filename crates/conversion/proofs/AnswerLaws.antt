@@ -21,7 +21,7 @@ use Rattle.conversion.specs.declared.PhysicalValue.the-variants as P
 use Rattle.conversion.specs.Made.{Made, refused, made, pure, need, _>>=_, _>>_}
 use Rattle.conversion.specs.Convert.{Spot, deviations, ranged, gridValue, databaseValue, convertPhysical, physicalValue, convertBy, convertUnit, arrayEndpoint}
 use Rattle.conversion.specs.Answer.{valueOf, physicalOf}
-use Rattle.conversion.proofs.MadeLaws.{need-on, need-off, pure-then, refused-then}
+use Rattle.conversion.proofs.MadeLaws.{need-on, need-off, refused-on, pure-on}
 
 -- ---- the database value
 
@@ -51,13 +51,6 @@ value-infinite policy d p h = go (finite p) refl
     go false e = value-not-finite policy d p e
 
 -- ---- a value and then its deviation, by the value's answer v
-
-module _ {A B : Type 0} (m : Made A) (f : A → Made B) where
-  refused-on : (r : Refusal) → refused r ≡ m → refused r ≡ m >>= f
-  refused-on r h = sym (refused-then r f) ∙ ap (λ (n : Made A). n >>= f) h
-
-  pure-on : (a : A) → pure a ≡ m → f a ≡ m >>= f
-  pure-on a h = sym (pure-then a f) ∙ ap (λ (n : Made A). n >>= f) h
 
 module _ (policy : GdsRoundingPolicy) (d p : Float) (at : Spot) where
   pub physical-refused : (v : DatabaseValue) (r : Refusal) → v ≡ D.Refused r → valueOf v ≡ databaseValue policy d p → refused r ≡ convertPhysical policy d at p

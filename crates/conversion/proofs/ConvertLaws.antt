@@ -116,7 +116,7 @@ accept policy d p q f g e r =
     ∙ need-on (finite (div binary64 p d)) R.NotFinite _ (on (finite (div binary64 p d)) g)
     ∙ then-pure ranged e (need-on (inRange q) R.OutOfRange (pure q) (on (inRange q) r))
 
-rounded-pure : (policy : GdsRoundingPolicy) (s : Float) (q : ℤ) → Yields (rounded policy s) q → rounded policy s ≡ pure q
+pub rounded-pure : (policy : GdsRoundingPolicy) (s : Float) (q : ℤ) → Yields (rounded policy s) q → rounded policy s ≡ pure q
 unfolding rounded
 rounded-pure Nearest s q y = ap (λ (z : ℤ). pure z) (made-yields y)
 rounded-pure Floor s q y = ap (λ (z : ℤ). pure z) (made-yields y)

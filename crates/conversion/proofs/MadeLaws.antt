@@ -1,5 +1,5 @@
 -- Steps taken apart: those that were not refused, and checks that are known to pass or to fail. Assumes nothing.
-use mathlib.Core.Path.{_≡_, refl, ap, _∙_}
+use mathlib.Core.Path.{_≡_, refl, sym, ap, _∙_}
 use mathlib.Core.Bool.{Bool, true, false}
 use mathlib.Core.List.{List, [], _∷_, _++_}
 use Prim.Native.Nat.{ℕ}
@@ -92,3 +92,11 @@ then-pure {a = a} f e g = ap (λ (m : Made _). m >>= f) e ∙ pure-then a f ∙ 
 pub refused-then : {A B : Type 0} (r : Refusal) (f : A → Made B) → refused r >>= f ≡ refused r
 unfolding _>>=_
 refused-then r f = refl
+
+-- a step that is what an answer stands for, then another
+module _ {A B : Type 0} (m : Made A) (f : A → Made B) where
+  pub refused-on : (r : Refusal) → refused r ≡ m → refused r ≡ m >>= f
+  refused-on r h = sym (refused-then r f) ∙ ap (λ (n : Made A). n >>= f) h
+
+  pub pure-on : (a : A) → pure a ≡ m → f a ≡ m >>= f
+  pure-on a h = sym (pure-then a f) ∙ ap (λ (n : Made A). n >>= f) h

@@ -3,6 +3,9 @@ use mathlib.Core.List.{[], _∷_}
 use lib.IntN.{ℤ}
 use lib.Ieee.{Float}
 use Rattle.units.specs.Point.{Point}
+use Rattle.conversion.specs.declared.GdsRoundingPolicy.{GdsRoundingPolicy}
+use Rattle.conversion.specs.declared.CallerPolicy.{CallerPolicy}
+use Rattle.conversion.specs.declared.CallerPolicy.the-variants as Caller
 use Rattle.conversion.specs.declared.Conversion.{Conversion}
 use Rattle.conversion.specs.declared.Conversion.the-variants as C
 use Rattle.conversion.specs.declared.DatabaseValue.{DatabaseValue}
@@ -18,6 +21,10 @@ abbrev pub outcome : Spot → Conversion → Made ℤ
 outcome at (C.Refused r) = refused r
 outcome at (C.Converted q) = pure q
 outcome at (C.Quantized q p e) = made q (record { field = at .field; axis = at .axis; place = at .place; physical = p; database = q; error = e } ∷ [])
+
+abbrev pub callerOf : CallerPolicy → Made GdsRoundingPolicy
+callerOf (Caller.Refused r) = refused r
+callerOf (Caller.With policy) = pure policy
 
 abbrev pub valueOf : DatabaseValue → Made ℤ
 valueOf (D.Refused r) = refused r

@@ -1,6 +1,7 @@
 -- One conversion, the deviation that it reports, an array's conversions, and an element's report entry; the bounds of demand 3.
 pub mod Field
 pub mod Made
+pub mod Policy
 pub mod Entry
 pub mod Convert
 pub mod Points

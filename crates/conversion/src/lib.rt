@@ -1,6 +1,6 @@
 // Physical values to the database grid, and the report entry of an element (write/conversion.rs).
 // Nothing is required of the database unit d: the definitions say what each answer is for every double.
-ghost use mathlib.Core.Option.{none};
+ghost use mathlib.Core.Option.{none, some};
 ghost use mathlib.Core.Path.{_≡_};
 ghost use Prim.Native.Nat.{_+_, _≤_, _<_, _^_};
 ghost use lib.ListN.{length};
@@ -10,9 +10,10 @@ ghost use lib.Ieee.Scale.{finite};
 ghost use Rattle.binary64.specs.Value.{negative};
 ghost use Rattle.binary64.specs.Step.{oneStep};
 ghost use Rattle.conversion.specs.Made.{made};
+ghost use Rattle.conversion.specs.Policy.{policyOf, maxPolicy, callerPolicy};
 ghost use Rattle.conversion.specs.Convert as Convert;
 ghost use Rattle.conversion.specs.Convert.{Spot, gridValue, databaseValue, deviations, convertPhysical, physicalValue, convertUnit, arrayEndpoint};
-ghost use Rattle.conversion.specs.Answer.{outcome, valueOf, physicalOf, pointOf};
+ghost use Rattle.conversion.specs.Answer.{callerOf, outcome, valueOf, physicalOf, pointOf};
 ghost use Rattle.conversion.specs.Array as Array;
 ghost use Rattle.conversion.specs.Array.{endpointPhysical};
 ghost use Rattle.big_endian.specs.Buffer.{WroteAt};
@@ -28,6 +29,9 @@ pub enum GdsRoundingPolicy {
     Ceil,
     ErrorIfOffGrid,
 }
+
+// The greatest number of a policy.
+const MAX_POLICY: u8 = 3;
 
 // A report entry's fields (document 01, "Result three"; specs/Field.antt).
 pub const POINT_FIELD: u8 = 0;
@@ -66,6 +70,12 @@ const WHOLE: u64 = 1074;
 // The weight of the sign in the bits of a double.
 const SIGN: u64 = 0x8000_0000_0000_0000;
 
+// The policy of a caller who has passed its first checks, or the first that failed.
+pub enum CallerPolicy {
+    Refused { refusal: Refusal },
+    With { policy: GdsRoundingPolicy },
+}
+
 // A database value, or why there is none.
 pub enum DatabaseValue {
     Refused { refusal: Refusal },
@@ -97,6 +107,41 @@ pub enum Conversion {
 pub struct PhysicalPoint {
     pub x: f64,
     pub y: f64,
+}
+
+// The policy of a number up to 3.
+pub fn policy_of(n: u8) -> GdsRoundingPolicy
+    requires { ⌜ n ≤ maxPolicy ⌝ }
+    ensures { λ r. ⌜ policyOf n ≡ some r ⌝ }
+{
+    if n == 0 {
+        return GdsRoundingPolicy::Nearest;
+    }
+    if n == 1 {
+        return GdsRoundingPolicy::Floor;
+    }
+    if n == 2 {
+        return GdsRoundingPolicy::Ceil;
+    }
+    GdsRoundingPolicy::ErrorIfOffGrid
+}
+
+// A caller's first checks: the policy's number, then the database unit.
+pub fn caller_policy(n: u8, d: f64) -> CallerPolicy
+    ensures { λ r. ⌜ callerOf r ≡ callerPolicy n d ⌝ }
+{
+    if n > MAX_POLICY {
+        return CallerPolicy::Refused {
+            refusal: Refusal::Policy,
+        };
+    }
+    let policy = policy_of(n);
+    if binary64::is_positive(d) {
+        return CallerPolicy::With { policy };
+    }
+    CallerPolicy::Refused {
+        refusal: Refusal::DatabaseUnit,
+    }
 }
 
 // A whole number, if 32 bits hold it.

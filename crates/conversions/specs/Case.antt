@@ -1,4 +1,4 @@
--- A case is 54 bytes: a conversion, and the answer that another implementation gave. Its layout stands in tools/conversions.py. Assumes nothing.
+-- A case is 54 bytes: a conversion, or two bounds, and the answer that another implementation gave. Its layout stands in tools/conversions.py. Assumes nothing.
 use mathlib.Core.List.{List, [], _∷_}
 use mathlib.Core.Bool.{Bool, not, _&&_, cond}
 use Prim.Native.Nat.{ℕ, zero, suc, _+_, _*_, _^_}
@@ -15,6 +15,9 @@ use Rattle.conversion.specs.declared.GdsRoundingPolicy.{GdsRoundingPolicy}
 use Rattle.conversion.specs.declared.GdsRoundingPolicy.the-variants.{Nearest, Floor, Ceil, ErrorIfOffGrid}
 use Rattle.conversion.specs.Made.{Made, refused, made}
 use Rattle.conversion.specs.Convert.{Spot, convertUnit, arrayEndpoint}
+use Rattle.bounds.specs.Range.{convertBounds}
+use Rattle.bounds.specs.Answer as Bounds
+use Rattle.bounds.specs.Answer.{Values, valuesOf}
 use Rattle.conversions.specs.declared.Answer.{Answer}
 
 -- ---- the conversion
@@ -45,21 +48,34 @@ convertedAt s at spot = cond (eqb (numberAt 1 s at) 2) (endpointAt s at spot) (c
 
 -- ---- the answer
 
+-- of a conversion: the refusal's number, or the database value; then the physical value and the error of a deviation that counts
 abbrev pub answerOf : Made ℤ → Answer
-answerOf (refused r) = record { head = number r * 2 ^ 40; physical = 0; error = 0 }
-answerOf (made q []) = record { head = ofZ w32 q; physical = 0; error = 0 }
-answerOf (made q (v ∷ vs)) = record { head = 2 ^ 32 + ofZ w32 q; physical = toBits binary64 (v .physical); error = toBits binary64 (v .error) }
+answerOf (refused r) = record { first = number r * 2 ^ 40; second = 0; third = 0 }
+answerOf (made q []) = record { first = ofZ w32 q; second = 0; third = 0 }
+answerOf (made q (v ∷ vs)) = record { first = 2 ^ 32 + ofZ w32 q; second = toBits binary64 (v .physical); third = toBits binary64 (v .error) }
+
+-- of two bounds: the refusal's number, or the least value; then the greatest
+abbrev pub rangeAnswer : Values → Answer
+rangeAnswer v = record { first = v .number * 2 ^ 40 + ofZ w32 (v .least); second = ofZ w32 (v .greatest); third = 0 }
+
+-- the range of the case whose bytes begin at `at`
+unfoldable pub rangeAt : List ℕ → ℕ → Values
+rangeAt s at = valuesOf (Bounds.answerOf (convertBounds (numberAt 1 s (at + 1)) (doubleAt s (at + 2)) (doubleAt s (at + 10)) (doubleAt s (at + 18))))
+
+-- a conversion's answer does not say where the deviation is
+unfoldable pub answerAt : List ℕ → ℕ → Answer
+answerAt s at = cond (eqb (numberAt 1 s at) 3) (rangeAnswer (rangeAt s at)) (answerOf (convertedAt s at (record { field = 0; axis = 0; place = 0 })))
 
 -- whether three words stand at a place
 unfoldable pub wordsAt : ℕ → ℕ → ℕ → List ℕ → ℕ → Bool
-wordsAt head physical error s at = eqb head (numberAt 8 s at) && (eqb physical (numberAt 8 s (at + 8)) && eqb error (numberAt 8 s (at + 16)))
+wordsAt first second third s at = eqb first (numberAt 8 s at) && (eqb second (numberAt 8 s (at + 8)) && eqb third (numberAt 8 s (at + 16)))
 
 abbrev pub isAt : Answer → List ℕ → ℕ → Bool
-isAt a s at = wordsAt (a .head) (a .physical) (a .error) s at
+isAt a s at = wordsAt (a .first) (a .second) (a .third) s at
 
--- whether case k has the answer that its conversion gives; the answer does not say where the deviation is
+-- whether case k has the answer that the definitions give
 unfoldable pub agrees : List ℕ → ℕ → Bool
-agrees s k = isAt (answerOf (convertedAt s (54 * k) (record { field = 0; axis = 0; place = 0 }))) s (54 * k + 30)
+agrees s k = isAt (answerAt s (54 * k)) s (54 * k + 30)
 
 -- how many of the first n cases do not
 unfoldable pub differing : List ℕ → ℕ → ℕ

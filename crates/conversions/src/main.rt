@@ -1,11 +1,12 @@
-// Runs conversions to the database grid on known answers that another implementation gave: prints the number of each case that differs, then how many cases there are and how many differ.
+// Runs conversions to the database grid, and the ranges of two bounds, on known answers that another implementation gave: prints the number of each case that differs, then how many cases there are and how many differ.
 ghost use mathlib.Core.Path.{_≡_};
 ghost use Prim.Native.Nat.{_+_, _*_, _/_, _≤_};
 ghost use lib.ListN.{length};
 ghost use Rattle.conversion.specs.Convert.{Spot};
 ghost use Rattle.conversion.specs.Answer.{outcome};
 ghost use Rattle.conversions.specs.Case as Case;
-ghost use Rattle.conversions.specs.Case.{doubleAt, signedAt, policyOf, unitAt, convertedAt, answerOf, differing};
+ghost use Rattle.conversions.specs.Case.{doubleAt, signedAt, policyOf, unitAt, convertedAt, answerOf, rangeAnswer, rangeAt, answerAt, differing};
+use bounds::RangeAnswer;
 use conversion::Conversion;
 use conversion::GdsRoundingPolicy;
 use units::Unit;
@@ -19,6 +20,10 @@ const DATABASE_UNIT: usize = 2;
 
 const VALUE: usize = 10;
 
+const LOWER: usize = 10;
+
+const UPPER: usize = 18;
+
 const ORIGIN: usize = 18;
 
 const SPACING: usize = 22;
@@ -27,10 +32,12 @@ const COUNT: usize = 26;
 
 const ANSWER: usize = 30;
 
-// What a case is of: an integer with its unit, a double with its unit (1), or an array's endpoint.
+// What a case is of: an integer with its unit, a double with its unit (1), an array's endpoint, or two bounds.
 const INTEGER: u8 = 0;
 
 const ENDPOINT: u8 = 2;
+
+const BOUNDS: u8 = 3;
 
 // The policies' numbers; strict is 3.
 const NEAREST: u8 = 0;
@@ -46,9 +53,9 @@ const COUNTS: u64 = 0x1_0000_0000;
 
 // An answer in three words.
 struct Answer {
-    head: u64,
-    physical: u64,
-    error: u64,
+    first: u64,
+    second: u64,
+    third: u64,
 }
 
 fn double_at(cases: &[u8], at: usize) -> f64
@@ -135,49 +142,84 @@ fn answer_of(c: Conversion) -> Answer
 {
     match c {
         Conversion::Refused { refusal } => Answer {
-            head: (refusal.number() as u64) * REFUSAL,
-            physical: 0,
-            error: 0,
+            first: (refusal.number() as u64) * REFUSAL,
+            second: 0,
+            third: 0,
         },
         Conversion::Converted { value } => Answer {
-            head: big_endian::as_u32(value) as u64,
-            physical: 0,
-            error: 0,
+            first: big_endian::as_u32(value) as u64,
+            second: 0,
+            third: 0,
         },
         Conversion::Quantized {
             value,
             physical,
             error,
         } => Answer {
-            head: COUNTS + (big_endian::as_u32(value) as u64),
-            physical: binary64::to_bits(physical),
-            error: binary64::to_bits(error),
+            first: COUNTS + (big_endian::as_u32(value) as u64),
+            second: binary64::to_bits(physical),
+            third: binary64::to_bits(error),
         },
     }
 }
 
-// Whether the three words stand at a place.
-fn is_at(head: u64, physical: u64, error: u64, cases: &[u8], at: usize) -> bool
-    requires { ⌜ at + 24 ≤ length (now cases) ⌝ }
-    ensures { λ r. ⌜ r ≡ Case.wordsAt head physical error (now (cases .entry)) at ⌝ }
+// The answer of two bounds.
+fn range_answer(cases: &[u8], at: usize) -> Answer
+    requires { ⌜ at + 54 ≤ length (now cases) ⌝ }
+    ensures { λ r. ⌜ r ≡ rangeAnswer (rangeAt (now (cases .entry)) at) ⌝ }
 {
-    if head != big_endian::u64_at(cases, at) {
-        return false;
+    let policy = big_endian::u8_at(cases, at + POLICY);
+    let d = double_at(cases, at + DATABASE_UNIT);
+    let lower = double_at(cases, at + LOWER);
+    let upper = double_at(cases, at + UPPER);
+    match bounds::convert_bounds(policy, d, lower, upper) {
+        RangeAnswer::Refused { refusal } => Answer {
+            first: (refusal.number() as u64) * REFUSAL,
+            second: 0,
+            third: 0,
+        },
+        RangeAnswer::Range { least, greatest } => Answer {
+            first: big_endian::as_u32(least) as u64,
+            second: big_endian::as_u32(greatest) as u64,
+            third: 0,
+        },
     }
-    if physical != big_endian::u64_at(cases, at + 8) {
-        return false;
-    }
-    error == big_endian::u64_at(cases, at + 16)
 }
 
-// Whether case k has the answer that its conversion gives.
+// The answer of the case at a place.
+fn answer_at(cases: &[u8], at: usize) -> Answer
+    requires { ⌜ at + 54 ≤ length (now cases) ⌝ }
+    ensures { λ r. ⌜ r ≡ answerAt (now (cases .entry)) at ⌝ }
+{
+    if big_endian::u8_at(cases, at) == BOUNDS {
+        range_answer(cases, at)
+    } else {
+        answer_of(converted(cases, at))
+    }
+}
+
+// Whether the three words stand at a place.
+fn is_at(first: u64, second: u64, third: u64, cases: &[u8], at: usize) -> bool
+    requires { ⌜ at + 24 ≤ length (now cases) ⌝ }
+    ensures { λ r. ⌜ r ≡ Case.wordsAt first second third (now (cases .entry)) at ⌝ }
+{
+    if first != big_endian::u64_at(cases, at) {
+        return false;
+    }
+    if second != big_endian::u64_at(cases, at + 8) {
+        return false;
+    }
+    third == big_endian::u64_at(cases, at + 16)
+}
+
+// Whether case k has the answer that the code gives.
 fn agrees(cases: &[u8], k: usize) -> bool
     requires { ⌜ 54 * k + 54 ≤ length (now cases) ⌝ }
     ensures { λ r. ⌜ r ≡ Case.agrees (now (cases .entry)) k ⌝ }
 {
     let at = SIZE * k;
-    let a = answer_of(converted(cases, at));
-    is_at(a.head, a.physical, a.error, cases, at + ANSWER)
+    let a = answer_at(cases, at);
+    is_at(a.first, a.second, a.third, cases, at + ANSWER)
 }
 
 fn print_line(n: usize) {

@@ -1,13 +1,18 @@
 -- An answer in numbers, and from it and the writer's promise those of the exported functions. Assumes nothing.
-use mathlib.Core.Path.{_≡_, refl, sym, _∙_}
+use mathlib.Core.Path.{_≡_, refl, sym, _∙_, subst}
 use mathlib.Core.List.{List}
-use Prim.Native.Nat.{ℕ, _<_}
+use Prim.Native.Nat.{ℕ}
 use native.Mathlib.Omega.{arith}
+use lib.IntN.{ℤ, pos}
 use lib.Ieee.{Float, binary64, ofBits}
 use Rattle.refusal.specs.declared.Refusal.{Refusal}
-use Rattle.refusal.specs.declared.Refusal.the-variants as R
 use Rattle.refusal.specs.Number.{number}
+use Rattle.refusal.proofs.NumberLaws.{number-above}
 use Rattle.conversion.proofs.DeviationLaws.{zero-is}
+use Rattle.bounds.specs.declared.RangeAnswer.{RangeAnswer}
+use Rattle.bounds.specs.declared.RangeAnswer.the-variants as B
+use Rattle.bounds.specs.Answer.{valuesOf}
+use Rattle.bounds.specs.Bounds.{ConvertsBounds}
 use Rattle.cell.specs.declared.Answer.{Answer}
 use Rattle.cell.specs.declared.Answer.the-variants as A
 use Rattle.cell.specs.Cell.{measureCell}
@@ -26,34 +31,6 @@ accepted-in e = rw e (record { number = refl; block = refl; length = refl; entri
 
 -- ---- the exported functions
 
--- no refusal has the number 0, which says that the cell is accepted
-number-above : (r : Refusal) → 0 < number r
-number-above R.Policy = omega arith
-number-above R.DatabaseUnit = omega arith
-number-above R.SheetSize = omega arith
-number-above R.Pairs = omega arith
-number-above R.Form = omega arith
-number-above R.Stamp = omega arith
-number-above R.Name = omega arith
-number-above R.PointCount = omega arith
-number-above R.LayerOrType = omega arith
-number-above R.StringLength = omega arith
-number-above R.ColumnsOrRows = omega arith
-number-above R.Spacing = omega arith
-number-above R.Magnification = omega arith
-number-above R.Real = omega arith
-number-above R.SineOrCosine = omega arith
-number-above R.SourceUnit = omega arith
-number-above R.NotFinite = omega arith
-number-above R.OffGrid = omega arith
-number-above R.OutOfRange = omega arith
-number-above R.NotClosed = omega arith
-number-above R.OutputShort = omega arith
-number-above R.ReportShort = omega arith
-number-above R.NotStructure = omega arith
-number-above R.InexactReal = omega arith
-number-above R.ArrayCorners = omega arith
-
 -- where the number is 0, the answer is known from the others
 accepted : (a : Answer) → numberOf a ≡ 0 → a ≡ A.Accepted (lengthOf a) (entriesOf a) (greatestOf a)
 accepted (A.Refused r k) e = let h = number-above r in absurd (omega arith)
@@ -71,3 +48,12 @@ writes-for {a = a} w h =
       entries = w .entries;
       draws = λ z. rw (h .length) (w .draws _ _ _ (accepted a (sym (h .number) ∙ z)));
     }
+
+-- ---- lengths within bounds: each case of the answer
+
+module _ {policy : ℕ} {d lo hi : Float} {v : RangeAnswer} (h : ConvertsBounds policy d lo hi (valuesOf v)) where
+  pub bounds-refused : {x : Refusal} {r : ℕ} → v ≡ B.Refused x → r ≡ number x → ConvertsBounds policy d lo hi (record { number = r; least = pos 0; greatest = pos 0 })
+  bounds-refused e p = rw p (subst (λ (a : RangeAnswer). ConvertsBounds policy d lo hi (valuesOf a)) e h)
+
+  pub bounds-range : {a b : ℤ} → v ≡ B.Range a b → ConvertsBounds policy d lo hi (record { number = 0; least = a; greatest = b })
+  bounds-range e = subst (λ (a : RangeAnswer). ConvertsBounds policy d lo hi (valuesOf a)) e h

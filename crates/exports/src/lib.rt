@@ -1,8 +1,10 @@
-// The cell writer for programs in C, Rust and other languages: exports/ has its header and examples.
+// The cell writer and lengths within bounds, for programs in C, Rust and other languages: exports/ has the header and examples.
 // The slices stand first and the numbers last, so that a slice's address and length are two arguments of C side by side, in registers or on the stack.
-// Every place that is lent for an answer is written, also where the cell is refused.
+// Every place that is lent for an answer is written, also in a refusal.
 ghost use Rattle.exports.specs.Numbers.{InNumbers};
 ghost use Rattle.exports.specs.Exports.{MeasuresFor, WritesFor};
+ghost use Rattle.bounds.specs.Bounds.{ConvertsBounds};
+use bounds::RangeAnswer;
 use cell::Answer;
 
 // Puts each of the answer's numbers in its place; returns the refusal's number, or 0.
@@ -71,4 +73,33 @@ pub extern "C" fn ravenvanity_write_cell(
 {
     let a = write::write_cell(policy, d, sheet, out, report);
     answer_in(a, block, length, entries, greatest)
+}
+
+// The least and the greatest database value of all doubles from lower to upper, both included: returns 0 with the two; or the refusal's number, and both are 0.
+#[no_mangle]
+pub extern "C" fn ravenvanity_convert_bounds(
+    least: &mut i32,
+    greatest: &mut i32,
+    policy: u8,
+    d: f64,
+    lower: f64,
+    upper: f64,
+) -> u8
+    ensures { λ r. ⌜ ConvertsBounds policy d lower upper (record { number = r; least = now (least .exit); greatest = now (greatest .exit) }) ⌝ }
+{
+    match bounds::convert_bounds(policy, d, lower, upper) {
+        RangeAnswer::Refused { refusal } => {
+            *least = 0;
+            *greatest = 0;
+            refusal.number()
+        }
+        RangeAnswer::Range {
+            least: a,
+            greatest: b,
+        } => {
+            *least = a;
+            *greatest = b;
+            0
+        }
+    }
 }

@@ -16,6 +16,8 @@ use Rattle.parsing.specs.All.{All, done, more}
 use Rattle.conversion.specs.declared.GdsRoundingPolicy.the-variants.{Nearest}
 use Rattle.conversion.specs.Entry.{entryOf}
 use Rattle.conversion.specs.Made.{Made}
+use Rattle.conversion.specs.Made as M
+use Rattle.conversion.specs.Policy.{policyOf, callerPolicy}
 use Rattle.sheet.specs.Element as S
 use Rattle.sheet.specs.Element.{kindOf, headOf, elementOf}
 use Rattle.sheet.specs.Blocks.{maxPairs, blockOf}
@@ -37,7 +39,7 @@ use Rattle.stream.proofs.LenientLaws.{lenient}
 use Rattle.cell.specs.Limits.{maxSheetLength}
 use Rattle.cell.specs.Names.{isName}
 use Rattle.cell.specs.Stamps.{stampsFit}
-use Rattle.cell.specs.Cell.{Result, written, check, inFront, writeOne, writeBlock, writeBlocks, structureWith, writeHeaded, writeSheet, policyOf, measureWith, measureCell, structureBytes}
+use Rattle.cell.specs.Cell.{Result, written, check, inFront, writeOne, writeBlock, writeBlocks, structureWith, writeHeaded, writeSheet, measureWith, measureCell, structureBytes}
 use Rattle.cell.proofs.ElementLaws.{element-written}
 use Rattle.reading.specs.Limits.{recordLimit, sheetLimits}
 use Rattle.reading.specs.Cell.{bodyRead, elementRead, elementsRead, cellRead}
@@ -128,7 +130,7 @@ module _ (s : Structure) (h : KeptStructure s) (short : length (cellSheet (cellR
       ∙ ap (λ (n : List ℕ). written (record { stamps = s .stamps; name = n; elements = c .puts }) []) (padded-unpadded (s .name) (h .name .even .even))
 
   measured : measureCell nearest one64 sheet ≡ written canonical []
-  unfolding measureCell measureWith policyOf writeSheet
+  unfolding measureCell measureWith callerPolicy policyOf M.need M._>>_ M._>>=_ writeSheet
   measured =
       ap (λ (t : Bool). check t R.SheetSize (writeSheet Nearest one64 sheet)) (le-leb (length sheet) maxSheetLength short)
       ∙ ap (λ (t : Bool). check t R.Pairs (writeHeaded Nearest one64 sheet (headOf (blockOf sheet 0)))) (pairs-held (cellRead s) fine)

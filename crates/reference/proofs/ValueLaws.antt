@@ -18,6 +18,7 @@ use Rattle.conversion.specs.Fold.{run}
 use Rattle.conversion.specs.Made.{Made, refused, pure, need, _>>=_, _>>_}
 use Rattle.conversion.specs.Points.{writePoint}
 use Rattle.conversion.proofs.FoldLaws.{run-then, run-need, run-unmet, run-map, run-same}
+use Rattle.conversion.proofs.MadeLaws.{refused-on, pure-on}
 use Rattle.sheet.specs.Element as S
 use Rattle.stream.specs.Strings.{padded}
 use Rattle.stream.specs.Structure as D
@@ -37,7 +38,6 @@ use Rattle.array.specs.declared.Array.{Array}
 use Rattle.array.specs.declared.Array.the-variants as A
 use Rattle.array.specs.declared.Corners.{Corners}
 use Rattle.array.specs.Corners.{cornered}
-use Rattle.array.proofs.CoordinateLaws.{refused-on, pure-on}
 use Rattle.array.proofs.CornerLaws.{corners-are}
 use Rattle.reference.specs.declared.ReferenceValues.{ReferenceValues}
 use Rattle.reference.specs.declared.ReferenceValues.the-variants as N

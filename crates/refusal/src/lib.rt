@@ -1,4 +1,4 @@
-// Why a cell is not written (document 01, "Who can cause which refusal"), and why a structure is not read (document 02, request 8: from `NotStructure` on).
+// Why a cell is not written (document 01, "Who can cause which refusal"); why a structure is not read (document 02, request 8: from `NotStructure` on); why two ends are no bounds (request 11: `Bounds`).
 ghost use mathlib.Core.Path.{_≡_};
 ghost use Rattle.refusal.specs.Number as Number;
 
@@ -28,6 +28,7 @@ pub enum Refusal {
     NotStructure,
     InexactReal,
     ArrayCorners,
+    Bounds,
 }
 
 impl Refusal {
@@ -61,6 +62,7 @@ impl Refusal {
             Refusal::NotStructure => 28,
             Refusal::InexactReal => 29,
             Refusal::ArrayCorners => 30,
+            Refusal::Bounds => 32,
         }
     }
 }

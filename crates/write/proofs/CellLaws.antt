@@ -8,8 +8,7 @@ use native.Mathlib.Omega.{arith}
 use lib.Dec.{T, leb}
 use lib.ListN.{length, take, length-append}
 use lib.Ieee.{Float, binary64, fits}
-use lib.Ieee.Positive.{positive}
-use borrow.Author.Tests.{le-leb, lt-leb, ne-eqb, leb-true, leb-false}
+use borrow.Author.Tests.{le-leb, lt-leb}
 use Rattle.refusal.specs.declared.Refusal.{Refusal}
 use Rattle.refusal.specs.declared.Refusal.the-variants as R
 use Rattle.big_endian.specs.Big.{Bytes}
@@ -20,6 +19,9 @@ use Rattle.conversion.specs.declared.GdsRoundingPolicy.{GdsRoundingPolicy}
 use Rattle.conversion.specs.declared.Deviation.{Deviation}
 use Rattle.conversion.specs.declared.Entry.{Entry}
 use Rattle.conversion.specs.Entry.{entryOf, reportBytes, greatestFrom}
+use Rattle.conversion.specs.Made.{Made}
+use Rattle.conversion.specs.Policy.{policyOf, maxPolicy, callerPolicy}
+use Rattle.conversion.proofs.PolicyLaws.{policy-most, Caller, unnamed, noUnit, passes, caller}
 use Rattle.sheet.specs.Element.{Head, kindOf, headOf}
 use Rattle.sheet.specs.Blocks.{pairCount, pairsFit, blockOf}
 use Rattle.sheet.specs.Cell.{elementBlocks}
@@ -29,7 +31,7 @@ use Rattle.cell.specs.declared.Answer.the-variants as A
 use Rattle.cell.specs.Limits.{maxSheetLength}
 use Rattle.cell.specs.Stamps.{stampsFit}
 use Rattle.cell.specs.Names.{isName}
-use Rattle.cell.specs.Cell.{Result, stopped, written, check, writeBlocks, structureFor, structureWith, writeHeaded, writeSheet, policyOf, measureWith, measureCell, structureBytes, entryLength, fitting, writeCell, outAfter, reportAfter}
+use Rattle.cell.specs.Cell.{Result, stopped, written, check, writeBlocks, structureFor, structureWith, writeHeaded, writeSheet, measureWith, measureCell, structureBytes, entryLength, fitting, writeCell, outAfter, reportAfter}
 use Rattle.cell.specs.Answer.{answerOf}
 use Rattle.cell.specs.Draws.{Draws}
 use Rattle.cell.proofs.ResultLaws.{check-on, check-off}
@@ -110,26 +112,12 @@ pub record Passed (policy : ℕ) (d : Float) (sheet : List ℕ) (s : Structure) 
 
 passed : (policy : ℕ) (d : Float) (sheet : List ℕ) (s : Structure) (es : List Entry) → measureCell policy d sheet ≡ written s es → Passed policy d sheet s es
 unfolding measureCell measureWith
-passed policy d sheet s es m = go (policyOf policy) refl m
+passed policy d sheet s es m = go (callerPolicy policy d) (caller policy d) m
   where
-    go : (x : Option GdsRoundingPolicy) → policyOf policy ≡ x → measureWith x d sheet ≡ written s es → Passed policy d sheet s es
-    go none e m = let z : _≡_ {A = ℕ} 0 1 = cc in absurd (omega arith)
-    go (some p) e m =
-        let u = check-passed (positive d) _ _ m in
-        let l = check-passed (leb (length sheet) maxSheetLength) _ _ (u .1) in
-        record { rounding = p; named = e; writes = l .1 }
-
--- a policy that is known is at most 3
-policy-most : (n : ℕ) (p : GdsRoundingPolicy) → policyOf n ≡ some p → n ≤ 3
-unfolding policyOf
-policy-most n p e = go (leb n 3) refl
-  where
-    go : (t : Bool) → leb n 3 ≡ t → n ≤ 3
-    go true f = leb-true n 3 f
-    go false f =
-        let l = leb-false n 3 f in
-        let g : policyOf n ≡ none = rw (ne-eqb n 0 (λ z. omega arith), ne-eqb n 1 (λ z. omega arith), ne-eqb n 2 (λ z. omega arith), ne-eqb n 3 (λ z. omega arith)) in
-        let z : _≡_ {A = ℕ} 0 1 = cc in absurd (omega arith)
+    go : (m : Made GdsRoundingPolicy) → Caller policy d m → measureWith m d sheet ≡ written s es → Passed policy d sheet s es
+    go m (unnamed e) w = let z : _≡_ {A = ℕ} 0 1 = cc in absurd (omega arith)
+    go m (noUnit p e never) w = let z : _≡_ {A = ℕ} 0 1 = cc in absurd (omega arith)
+    go m (passes p e u) w = record { rounding = p; named = e; writes = check-passed (leb (length sheet) maxSheetLength) _ _ w .1 }
 
 -- the structure that was measured, by the answer
 pub record Measured (policy : ℕ) (d : Float) (sheet : List ℕ) (n c : ℕ) (g : Float) : Type 0 where
@@ -159,7 +147,7 @@ module _ {policy : ℕ} {d : Float} {sheet : List ℕ} {n c : ℕ} {g : Float} (
   went : Passed policy d sheet (m .structure) (m .entries)
   went = passed policy d sheet (m .structure) (m .entries) (m .is)
 
-  pub known-policy : policy ≤ 3
+  pub known-policy : policy ≤ maxPolicy
   known-policy = policy-most policy (went .rounding) (went .named)
 
   pub count-few : c ≤ 16384

@@ -8,12 +8,16 @@ use native.Mathlib.Omega.{arith}
 use lib.Dec.{leb}
 use lib.ListN.{length, length-append}
 use lib.Ieee.{Float}
-use lib.Ieee.Positive.{positive}
-use borrow.Author.Tests.{le-leb, lt-leb, ne-eqb, not-true, not-false}
+use borrow.Author.Tests.{le-leb, lt-leb, not-true, not-false}
 use Rattle.binary64.specs.Value.{zero64}
 use Rattle.refusal.specs.declared.Refusal.{Refusal}
 use Rattle.refusal.specs.declared.Refusal.the-variants as R
 use Rattle.conversion.specs.declared.GdsRoundingPolicy.{GdsRoundingPolicy}
+use Rattle.conversion.specs.declared.CallerPolicy.{CallerPolicy}
+use Rattle.conversion.specs.declared.CallerPolicy.the-variants as Caller
+use Rattle.conversion.specs.Made.{Made, pure}
+use Rattle.conversion.specs.Policy.{callerPolicy}
+use Rattle.conversion.specs.Answer.{callerOf}
 use Rattle.conversion.specs.Entry.{greatestFrom}
 use Rattle.sheet.specs.Element.{Head, headOf}
 use Rattle.sheet.specs.Blocks.{pairsFit, blockOf}
@@ -28,7 +32,7 @@ use Rattle.cell.specs.declared.Answer.the-variants as A
 use Rattle.cell.specs.Limits.{maxSheetLength}
 use Rattle.cell.specs.Stamps.{stampsFit}
 use Rattle.cell.specs.Names.{isName}
-use Rattle.cell.specs.Cell.{Result, stopped, written, structureFor, structureWith, structureBytes, writeBlocks, writeHeaded, writeSheet, policyOf, measureWith, measureCell}
+use Rattle.cell.specs.Cell.{Result, stopped, written, structureFor, structureWith, structureBytes, writeBlocks, writeHeaded, writeSheet, measureWith, measureCell}
 use Rattle.cell.specs.Answer.{answerOf}
 use Rattle.cell.proofs.ResultLaws.{check-on, check-off}
 use Rattle.records.proofs.RecordLaws.{length-record}
@@ -123,38 +127,22 @@ module _ (policy : GdsRoundingPolicy) (d : Float) (s : List ℕ) where
               let l : n ≡ length (headBytes h) = cc in
               ap (λ (x : ℕ). A.Accepted (x + m + 4) k w) l ∙ go-with h (writeBlocks policy d 0 (elementBlocks s)) m k w (sym g ∙ j)
 
--- ---- the caller's checks: policy, database unit, size of the sheet
+-- ---- the caller's checks: policy and database unit (v is their answer), size of the sheet
 
-module _ (n : ℕ) (d : Float) (s : List ℕ) where
-  pub policy-stop : 3 < n → A.Refused R.Policy 0 ≡ answerOf (measureCell n d s)
-  unfolding measureCell measureWith policyOf
-  policy-stop h =
-      let e : policyOf n ≡ none = rw (ne-eqb n 0 (λ z. omega arith), ne-eqb n 1 (λ z. omega arith), ne-eqb n 2 (λ z. omega arith), ne-eqb n 3 (λ z. omega arith)) in
-      sym (ap (λ (x : Option GdsRoundingPolicy). answerOf (measureWith x d s)) e)
+module _ (n : ℕ) (d : Float) (s : List ℕ) (v : CallerPolicy) (f : callerOf v ≡ callerPolicy n d) where
+  pub caller-stop : (r : Refusal) → v ≡ Caller.Refused r → A.Refused r 0 ≡ answerOf (measureCell n d s)
+  unfolding measureCell measureWith
+  caller-stop r e = ap (λ (m : Made GdsRoundingPolicy). answerOf (measureWith m d s)) (sym (ap callerOf e) ∙ f)
 
-  module _ (policy : GdsRoundingPolicy) (e : policyOf n ≡ some policy) (t : Bool) (f : t ≡ positive d) where
-    by : measureCell n d s ≡ measureWith (some policy) d s
+  module _ (policy : GdsRoundingPolicy) (e : v ≡ Caller.With policy) where
+    called : measureWith (pure policy) d s ≡ measureCell n d s
     unfolding measureCell
-    by = ap (λ (x : Option GdsRoundingPolicy). measureWith x d s) e
+    called = ap (λ (m : Made GdsRoundingPolicy). measureWith m d s) (sym (ap callerOf e) ∙ f)
 
-    pub unit-stop : not t ≡ true → A.Refused R.DatabaseUnit 0 ≡ answerOf (measureCell n d s)
+    pub size-stop : maxSheetLength < length s → A.Refused R.SheetSize 0 ≡ answerOf (measureCell n d s)
     unfolding measureWith
-    unit-stop g = sym (ap answerOf (by ∙ check-off (positive d) R.DatabaseUnit _ (sym f ∙ not-true t g)))
+    size-stop h = ap answerOf (sym (check-off (leb (length s) maxSheetLength) R.SheetSize _ (lt-leb (length s) maxSheetLength h)) ∙ called)
 
-    pub size-stop : not t ≡ false → maxSheetLength < length s → A.Refused R.SheetSize 0 ≡ answerOf (measureCell n d s)
+    pub cell-is : length s ≤ maxSheetLength → answerOf (writeSheet policy d s) ≡ answerOf (measureCell n d s)
     unfolding measureWith
-    size-stop g h =
-        sym
-        (ap answerOf
-        (by
-        ∙ check-on (positive d) R.DatabaseUnit _ (sym f ∙ not-false t g)
-        ∙ check-off (leb (length s) maxSheetLength) R.SheetSize _ (lt-leb (length s) maxSheetLength h)))
-
-    pub cell-is : not t ≡ false → length s ≤ maxSheetLength → answerOf (writeSheet policy d s) ≡ answerOf (measureCell n d s)
-    unfolding measureWith
-    cell-is g h =
-        sym
-        (ap answerOf
-        (by
-        ∙ check-on (positive d) R.DatabaseUnit _ (sym f ∙ not-false t g)
-        ∙ check-on (leb (length s) maxSheetLength) R.SheetSize _ (le-leb (length s) maxSheetLength h)))
+    cell-is h = ap answerOf (sym (check-on (leb (length s) maxSheetLength) R.SheetSize _ (le-leb (length s) maxSheetLength h)) ∙ called)

@@ -1,5 +1,6 @@
 // Writing a cell (`write_cell_with_options` of write/mod.rs): everything is decided in a measuring walk before the first byte is written.
 use cell::Answer;
+use conversion::CallerPolicy;
 use conversion::Entry;
 use conversion::GdsRoundingPolicy;
 use forms::HeadForm;
@@ -8,7 +9,6 @@ use refusal::Refusal;
 use writing::Measured;
 use writing::Written;
 ghost use mathlib.Core.Path.{_≡_};
-ghost use mathlib.Core.Option.{some};
 ghost use Prim.Native.Nat.{_+_, _*_, _≤_};
 ghost use lib.Dec.{T};
 ghost use lib.ListN.{length};
@@ -21,14 +21,12 @@ ghost use Rattle.sheet.specs.Blocks.{pairsFit};
 ghost use Rattle.sheet.specs.Cell.{elementBlocks};
 ghost use Rattle.forms.specs.Place.{stringAt};
 ghost use Rattle.forms.specs.Forms.{headAt, HeadIn};
-ghost use Rattle.cell.specs.Cell.{policyOf, writeBlocks, writeSheet, measureCell};
+ghost use Rattle.cell.specs.Cell.{writeBlocks, writeSheet, measureCell};
 ghost use Rattle.cell.specs.Answer.{answerOf};
 ghost use Rattle.write.specs.Walk.{headBytes, headMeasured, HeadSmall, totalsFrom, TotalsSmall, ElementsFit, PutsElements, StructureFits, PutsStructure};
 ghost use Rattle.write.specs.Writer.{WritesCell};
 
-// The greatest policy number, the longest sheet, and the bytes of a report entry.
-const MAX_POLICY: u8 = 3;
-
+// The longest sheet, and the bytes of a report entry.
 const MAX_SHEET_LENGTH: usize = 16777216;
 
 const ENTRY_LENGTH: usize = 33;
@@ -62,23 +60,6 @@ enum Totals {
 }
 
 // ---- measuring
-
-// The policy of a number up to 3.
-fn policy_of(n: u8) -> GdsRoundingPolicy
-    requires { ⌜ n ≤ 3 ⌝ }
-    ensures { λ r. ⌜ policyOf n ≡ some r ⌝ }
-{
-    if n == 0 {
-        return GdsRoundingPolicy::Nearest;
-    }
-    if n == 1 {
-        return GdsRoundingPolicy::Floor;
-    }
-    if n == 2 {
-        return GdsRoundingPolicy::Ceil;
-    }
-    GdsRoundingPolicy::ErrorIfOffGrid
-}
 
 // Block 0: its form, then its stamps, then its name.
 fn measure_head(b: &[u8]) -> HeadMeasured
@@ -205,26 +186,18 @@ fn measure_sheet(policy: GdsRoundingPolicy, d: f64, sheet: &[u8]) -> Answer
 pub fn measure_cell(policy: u8, d: f64, sheet: &[u8]) -> Answer
     ensures { λ r. ⌜ r ≡ answerOf (measureCell policy d (now (sheet .entry))) ⌝ }
 {
-    if policy > MAX_POLICY {
-        return Answer::Refused {
-            refusal: Refusal::Policy,
-            block: 0,
-        };
+    match conversion::caller_policy(policy, d) {
+        CallerPolicy::Refused { refusal } => Answer::Refused { refusal, block: 0 },
+        CallerPolicy::With { policy: rounding } => {
+            if sheet.len() > MAX_SHEET_LENGTH {
+                return Answer::Refused {
+                    refusal: Refusal::SheetSize,
+                    block: 0,
+                };
+            }
+            measure_sheet(rounding, d, sheet)
+        }
     }
-    let rounding = policy_of(policy);
-    if !binary64::is_positive(d) {
-        return Answer::Refused {
-            refusal: Refusal::DatabaseUnit,
-            block: 0,
-        };
-    }
-    if sheet.len() > MAX_SHEET_LENGTH {
-        return Answer::Refused {
-            refusal: Refusal::SheetSize,
-            block: 0,
-        };
-    }
-    measure_sheet(rounding, d, sheet)
 }
 
 // ---- writing
@@ -332,7 +305,7 @@ pub fn write_cell(policy: u8, d: f64, sheet: &[u8], out: &mut [u8], report: &mut
                     block: 0,
                 };
             }
-            put_structure(policy_of(policy), d, sheet, out, report);
+            put_structure(conversion::policy_of(policy), d, sheet, out, report);
             Answer::Accepted {
                 length,
                 entries,

@@ -1,24 +1,17 @@
 -- `conversions::agrees` meets its contract. Assumes nothing.
 use mathlib.Core.Path.{ap, _∙_}
 use Prim.Native.Nat.{_+_, _*_}
-use Rattle.conversion.specs.Convert.{Spot}
 use Rattle.conversions.specs.declared.Answer.{Answer}
-use Rattle.conversions.specs.Case.{answerOf, isAt, agrees}
+use Rattle.conversions.specs.Case.{isAt, agrees}
 use borrow.Author.Needs.{needs}
 use Rattle.conversions.proofs.agrees.Statement.{statement}
 use Rattle.conversions.proofs.agrees.Tie as tie
 
-abbrev somewhere : Spot
-somewhere = record { field = 0; axis = 0; place = 0 }
-
 mul-at : tie.Need-mul-at
 mul-at c = search needs
 
-converted-requires : tie.Need-converted-requires
-converted-requires c κs = search needs
-
-answer-of-requires : tie.Need-answer-of-requires
-answer-of-requires c κs = search needs
+answer-at-requires : tie.Need-answer-at-requires
+answer-at-requires c κs = search needs
 
 add-is-at : tie.Need-add-is-at
 add-is-at c = search needs
@@ -28,9 +21,7 @@ is-at-requires c κs = search needs
 
 returns : tie.Need-returns
 unfolding agrees
-returns c = let a = c .before .before .before .before .args in c .is-at .ensures ∙ ap (λ (v : Answer). isAt v (a .cases .now) (54 * a .k + 30)) (c .before .answer-of .ensures somewhere ∙ ap answerOf (c .before .before .converted .ensures somewhere))
+returns c = let a = c .before .before .before .args in c .is-at .ensures ∙ ap (λ (v : Answer). isAt v (a .cases .now) (54 * a .k + 30)) (c .before .answer-at .ensures)
 
 pub agrees-spec : {M : Type 1} → statement M
-agrees-spec =
-    tie.close
-    (tie.spec mul-at converted-requires answer-of-requires add-is-at is-at-requires returns)
+agrees-spec = tie.close (tie.spec mul-at answer-at-requires add-is-at is-at-requires returns)

@@ -13,7 +13,7 @@ use Rattle.conversions.proofs.answer_of.Statement.{statement}
 use Rattle.conversions.proofs.answer_of.Tie as tie
 
 abbrev words : ℕ → ℕ → ℕ → Answer
-words h p e = record { head = h; physical = p; error = e }
+words h p e = record { first = h; second = p; third = e }
 
 ap₃ : (f : ℕ → ℕ → ℕ → Answer) {a b c a' b' c' : ℕ} → a ≡ a' → b ≡ b' → c ≡ c' → f a b c ≡ f a' b' c'
 ap₃ f e g h = cc

@@ -21,7 +21,7 @@ u64-at-requires c κs = search needs
 
 returns : tie.Need-returns
 unfolding wordsAt
-returns c = off (c .before .before .before .args .head) _ _ _ (c .before .u64-at .ensures) (c .if1 .taken)
+returns c = off (c .before .before .before .args .first) _ _ _ (c .before .u64-at .ensures) (c .if1 .taken)
 
 add-u64-at : tie.Need-add-u64-at
 add-u64-at c = search needs
@@ -31,7 +31,7 @@ u64-at-requires-2 c κs = search needs
 
 returns-2 : tie.Need-returns-2
 unfolding wordsAt
-returns-2 c = on (c .before .before .before .before .before .args .head) _ _ _ _ (c .before .before .before .u64-at .ensures) (c .before .before .if1 .left) (off (c .before .before .before .before .before .args .physical) _ _ _ (c .before .u64-at2 .ensures) (c .if2 .taken))
+returns-2 c = on (c .before .before .before .before .before .args .first) _ _ _ _ (c .before .before .before .u64-at .ensures) (c .before .before .if1 .left) (off (c .before .before .before .before .before .args .second) _ _ _ (c .before .u64-at2 .ensures) (c .if2 .taken))
 
 add-u64-at-2 : tie.Need-add-u64-at-2
 add-u64-at-2 c = search needs
@@ -41,7 +41,7 @@ u64-at-requires-3 c κs = search needs
 
 returns-3 : tie.Need-returns-3
 unfolding wordsAt
-returns-3 c = on (c .before .before .before .before .before .before .args .head) _ _ _ _ (c .before .before .before .before .u64-at .ensures) (c .before .before .before .if1 .left) (on (c .before .before .before .before .before .before .args .physical) _ _ _ _ (c .before .before .u64-at2 .ensures) (c .before .if2 .left) (ap (eqb (c .before .before .before .before .before .before .args .error)) (c .u64-at3 .ensures)))
+returns-3 c = on (c .before .before .before .before .before .before .args .first) _ _ _ _ (c .before .before .before .before .u64-at .ensures) (c .before .before .before .if1 .left) (on (c .before .before .before .before .before .before .args .second) _ _ _ _ (c .before .before .u64-at2 .ensures) (c .before .if2 .left) (ap (eqb (c .before .before .before .before .before .before .args .third)) (c .u64-at3 .ensures)))
 
 pub is-at-spec : {M : Type 1} → statement M
 is-at-spec =

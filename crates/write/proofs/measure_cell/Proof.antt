@@ -1,45 +1,42 @@
 -- `write::measure_cell` meets its contract: the caller's checks, then the sheet. Assumes nothing.
 use mathlib.Core.Path.{_∙_}
 use borrow.Author.Needs.{needs}
-use Rattle.write.proofs.SheetLaws.{policy-stop, unit-stop, size-stop, cell-is}
+use Rattle.write.proofs.SheetLaws.{caller-stop, size-stop, cell-is}
 use Rattle.write.proofs.measure_cell.Statement.{statement}
 use Rattle.write.proofs.measure_cell.Tie as tie
 
+caller-policy-requires : tie.Need-caller-policy-requires
+caller-policy-requires c κs = search needs
+
+enum-known-refusal : tie.Need-enum-known-refusal
+enum-known-refusal c = search needs
+
+enum-known-rounding : tie.Need-enum-known-rounding
+enum-known-rounding c = search needs
+
 returns : tie.Need-returns
 returns c =
-    let a = c .before .before .args in
-    policy-stop (a .policy) (a .d) (a .sheet .now) (c .if1 .taken)
-
-policy-of-requires : tie.Need-policy-of-requires
-policy-of-requires c κs = search needs
-
-is-positive-requires : tie.Need-is-positive-requires
-is-positive-requires c κs = search needs
-
-returns-2 : tie.Need-returns-2
-returns-2 c =
-    let a = c .before .before .before .before .before .args in
-    let p = c .before .before .policy-of in
-    let t = c .before .is-positive in
-    unit-stop (a .policy) (a .d) (a .sheet .now) (p .result) (p .ensures) (t .result) (t .ensures) (c .if2 .taken)
-
-returns-3 : tie.Need-returns-3
-returns-3 c =
-    let a = c .before .before .before .before .before .before .args in
-    let p = c .before .before .before .policy-of in
-    let t = c .before .before .is-positive in
-    size-stop (a .policy) (a .d) (a .sheet .now) (p .result) (p .ensures) (t .result) (t .ensures) (c .before .if2 .left) (c .if3 .taken)
+    let k = c .before .before in
+    let v = k .before .before .caller-policy in
+    let a = k .before .before .before .before .args in
+    size-stop (a .policy) (a .d) (a .sheet .now) (v .result) (v .ensures) _ (k .rounding .given .1) (c .if1 .taken)
 
 measure-sheet-requires : tie.Need-measure-sheet-requires
 measure-sheet-requires c κs = search needs
 
-returns-4 : tie.Need-returns-4
-returns-4 c =
-    let a = c .before .before .before .before .before .before .before .args in
-    let p = c .before .before .before .before .policy-of in
-    let t = c .before .before .before .is-positive in
-    c .measure-sheet .ensures
-    ∙ cell-is (a .policy) (a .d) (a .sheet .now) (p .result) (p .ensures) (t .result) (t .ensures) (c .before .before .if2 .left) (c .before .if3 .left)
+returns-2 : tie.Need-returns-2
+returns-2 c =
+    let k = c .before in
+    let v = k .before .before .caller-policy in
+    let a = k .before .before .before .before .args in
+    caller-stop (a .policy) (a .d) (a .sheet .now) (v .result) (v .ensures) _ (k .refusal .given .1)
+
+returns-3 : tie.Need-returns-3
+returns-3 c =
+    let k = c .before .before .before in
+    let v = k .before .before .caller-policy in
+    let a = k .before .before .before .before .args in
+    c .measure-sheet .ensures ∙ cell-is (a .policy) (a .d) (a .sheet .now) (v .result) (v .ensures) _ (k .rounding .given .1) (c .before .if1 .left)
 
 pub measure-cell-spec : {M : Type 1} → statement M
-measure-cell-spec = tie.close (tie.spec returns policy-of-requires is-positive-requires returns-2 returns-3 measure-sheet-requires returns-4)
+measure-cell-spec = tie.close (tie.spec caller-policy-requires enum-known-refusal enum-known-rounding returns measure-sheet-requires returns-2 returns-3)

@@ -1,9 +1,9 @@
--- `write::policy_of` meets its contract. Assumes nothing.
+-- `conversion::policy_of` meets its contract. Assumes nothing.
 use borrow.Author.Tests.{eq-eqb, ne-eqb}
 use native.Mathlib.Omega.{arith}
-use Rattle.cell.specs.Cell.{policyOf}
-use Rattle.write.proofs.policy_of.Statement.{statement}
-use Rattle.write.proofs.policy_of.Tie as tie
+use Rattle.conversion.specs.Policy.{policyOf}
+use Rattle.conversion.proofs.policy_of.Statement.{statement}
+use Rattle.conversion.proofs.policy_of.Tie as tie
 
 returns : tie.Need-returns
 unfolding policyOf

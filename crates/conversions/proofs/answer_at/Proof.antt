@@ -1,0 +1,49 @@
+-- `conversions::answer_at` meets its contract. Assumes nothing.
+use mathlib.Core.Path.{_≡_, sym, ap, _∙_}
+use mathlib.Core.List.{List}
+use Prim.Native.Nat.{ℕ}
+use borrow.Author.Tests.{eq-eqb, ne-eqb}
+use Rattle.big_endian.specs.Big.{numberAt}
+use Rattle.conversion.specs.Convert.{Spot}
+use Rattle.conversions.specs.Case.{convertedAt, answerOf, rangeAnswer, rangeAt, answerAt}
+use borrow.Author.Needs.{needs}
+use Rattle.conversions.proofs.answer_at.Statement.{statement}
+use Rattle.conversions.proofs.answer_at.Tie as tie
+
+abbrev somewhere : Spot
+somewhere = record { field = 0; axis = 0; place = 0 }
+
+of-bounds : (s : List ℕ) (at n : ℕ) → n ≡ numberAt 1 s at → n ≡ 3 → rangeAnswer (rangeAt s at) ≡ answerAt s at
+unfolding answerAt
+of-bounds s at n e h = rw (eq-eqb (numberAt 1 s at) 3 (sym e ∙ h))
+
+of-conversion : (s : List ℕ) (at n : ℕ) → n ≡ numberAt 1 s at → (n ≡ 3 → ⊥) → answerOf (convertedAt s at somewhere) ≡ answerAt s at
+unfolding answerAt
+of-conversion s at n e h = rw (ne-eqb (numberAt 1 s at) 3 (λ z. h (e ∙ z)))
+
+u8-at-requires : tie.Need-u8-at-requires
+u8-at-requires c κs = search needs
+
+range-answer-requires : tie.Need-range-answer-requires
+range-answer-requires c κs = search needs
+
+converted-requires : tie.Need-converted-requires
+converted-requires c κs = search needs
+
+answer-of-requires : tie.Need-answer-of-requires
+answer-of-requires c κs = search needs
+
+returns : tie.Need-returns
+returns c =
+    let k = c .before .before in
+    let a = k .before .before .args in
+    c .range-answer .ensures ∙ of-bounds (a .cases .now) (a .at) _ (k .u8-at .ensures) (c .before .if1 .taken)
+
+returns-2 : tie.Need-returns-2
+returns-2 c =
+    let k = c .before .before .before in
+    let a = k .before .before .args in
+    c .answer-of .ensures somewhere ∙ ap answerOf (c .before .converted .ensures somewhere) ∙ of-conversion (a .cases .now) (a .at) _ (k .u8-at .ensures) (c .before .before .if1 .left)
+
+pub answer-at-spec : {M : Type 1} → statement M
+answer-at-spec = tie.close (tie.spec u8-at-requires range-answer-requires converted-requires answer-of-requires returns returns-2)

@@ -1,0 +1,54 @@
+"""The proved functions, for tools: target/staticlib/libexports.a (`rt staticlib exports`), linked into a shared object and loaded. A convenience, outside the proof.
+
+The answers are the library's: nothing is decided here. A C compiler links it, once for each build of the library.
+"""
+import ctypes
+import os
+import subprocess
+import tempfile
+
+TARGET = os.path.join(os.path.dirname(os.path.dirname(os.path.abspath(__file__))), "target", "staticlib")
+ARCHIVE = os.path.join(TARGET, "libexports.a")
+SHARED = os.path.join(TARGET, "libexports.so")
+
+
+class Missing(Exception):
+    """The library cannot be had, and why."""
+
+
+def link():
+    """Makes the shared object, whole or not at all."""
+    place, made = tempfile.mkstemp(suffix=".so", dir=TARGET)
+    os.close(place)
+    try:
+        command = ["cc", "-shared", "-o", made, "-Wl,--whole-archive", ARCHIVE, "-Wl,--no-whole-archive"]
+        ran = subprocess.run(command, stdout=subprocess.PIPE, stderr=subprocess.STDOUT, text=True)
+        if ran.returncode != 0:
+            raise Missing(f"cc does not link {ARCHIVE}: {''.join(ran.stdout.strip().splitlines()[-1:])}")
+        os.replace(made, SHARED)
+    except FileNotFoundError:
+        raise Missing("cc is not on the PATH: a C compiler is needed to link the library") from None
+    finally:
+        if os.path.exists(made):
+            os.remove(made)
+
+
+def load():
+    if not os.path.exists(ARCHIVE):
+        raise Missing(f"{os.path.relpath(ARCHIVE)} is not there: `./run`, or `rt staticlib exports`, builds it")
+    try:
+        if not os.path.exists(SHARED) or os.path.getmtime(SHARED) < os.path.getmtime(ARCHIVE):
+            link()
+        return ctypes.CDLL(SHARED)
+    except OSError as fault:
+        raise Missing(str(fault)) from None
+
+
+def convert_bounds(library, policy, d, lower, upper):
+    """(0, least, greatest), or (the refusal's number, 0, 0)"""
+    function = library.ravenvanity_convert_bounds
+    function.restype = ctypes.c_uint8
+    function.argtypes = [ctypes.POINTER(ctypes.c_int32)] * 2 + [ctypes.c_uint8] + [ctypes.c_double] * 3
+    least, greatest = ctypes.c_int32(), ctypes.c_int32()
+    number = function(ctypes.byref(least), ctypes.byref(greatest), policy, d, lower, upper)
+    return number, least.value, greatest.value
