@@ -5,7 +5,7 @@
 
 LOWER and UPPER are physical values, both included; D is the database unit. Each is a decimal (the nearest double is
 taken), inf, -inf, nan, or its bits: 0x and 16 hex digits. P is nearest, floor, ceiling, strict or a number up to 255;
-strict takes equal ends alone. The answer is the proved library's (tools/library.py).
+strict takes equal ends alone. The answer is the proved library's (tools/exported.py).
 
 Exit status: 0 with a range, 1 with a refusal, 2 where it was called wrongly or the library is not there.
 """
@@ -13,7 +13,7 @@ import math
 import sys
 
 import cell_text
-import library
+import exported
 import refusal
 from cell_to_sheet import POLICIES
 from sheet import double_of, end_with_the_pipe
@@ -63,13 +63,13 @@ def end_at_fault(functions, number, policy, d, lower, upper):
         return ""
     if number == 17 and not (math.isfinite(lower) and math.isfinite(upper)):
         return ", the lower end" if not math.isfinite(lower) else ", the upper end"
-    alone = library.convert_bounds(functions, policy, d, lower, lower)[0]
+    alone = exported.convert_bounds(functions, policy, d, lower, lower)[0]
     return ", the lower end" if alone == number else ", the upper end"
 
 
 def told(functions, policy, d, lower, upper):
     """(what is printed, the exit status)"""
-    number, least, greatest = library.convert_bounds(functions, policy, d, lower, upper)
+    number, least, greatest = exported.convert_bounds(functions, policy, d, lower, upper)
     if number == 0:
         return f"least {least}, greatest {greatest}", 0
     return f"refusal {number}{end_at_fault(functions, number, policy, d, lower, upper)}: {refusal.TABLE[number][1]}", 1
@@ -82,8 +82,8 @@ def main():
         print(__doc__.strip())
         return
     try:
-        line, status = told(library.load(), *numbers(*arguments(words)))
-    except (Wrong, library.Missing) as fault:
+        line, status = told(exported.load(), *numbers(*arguments(words)))
+    except (Wrong, exported.Missing) as fault:
         print(f"bounds.py: {fault}", file=sys.stderr)
         sys.exit(2)
     print(line)

@@ -15,7 +15,7 @@ import sys
 
 import bounds
 import cell_text
-import library
+import exported
 import model
 import pack_cases
 import sheet as form
@@ -118,8 +118,8 @@ def bad_uses(count):
 def stored_bounds(count):
     """What bounds.py says of each stored case. Without the library nothing can be asked, and a line says so."""
     try:
-        functions = library.load()
-    except library.Missing as missing:
+        functions = exported.load()
+    except exported.Missing as missing:
         print(f"bounds.py is not tried on cases: {missing}")
         return
     with open(STORED_BOUNDS, encoding="ascii") as f:

@@ -23,7 +23,7 @@ use Rattle.conversion.proofs.MadeLaws.{Yields, no-yield, made-yields, steps, ne
 use Rattle.conversion.proofs.PolicyLaws.{Caller, unnamed, noUnit, passes, caller}
 use Rattle.bounds.specs.declared.RangeAnswer.{RangeAnswer}
 use Rattle.bounds.specs.declared.RangeAnswer.the-variants as A
-use Rattle.bounds.specs.Range.{Range, admitted, rangeOf, convertBounds, Spans}
+use Rattle.bounds.specs.Range.{Range, admitted, rangeOf, convertBounds}
 use Rattle.bounds.specs.Answer.{answerOf, valuesOf}
 use Rattle.bounds.specs.Bounds.{SpansFor, ConvertsBounds}
 use Rattle.bounds.proofs.SpansLaws.{range-spans}

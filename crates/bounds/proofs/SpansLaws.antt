@@ -3,7 +3,7 @@ use mathlib.Core.Path.{_≡_, refl, sym, ap, ap₂, _∙_, subst}
 use mathlib.Core.Logic.{_⊎_, inl, inr}
 use mathlib.Core.Bool.{Bool, true, false, _&&_, cond}
 use mathlib.Core.List.{[]}
-use Prim.Native.Nat.{ℕ, _^_, _≤_, zero-le}
+use Prim.Native.Nat.{_^_, _≤_, zero-le}
 use native.Mathlib.Nat.{le-trans, lt-of-le-of-lt}
 use lib.Dec.{T, leb→le, ltb→lt, lt→ltb}
 use lib.IntN.{ℤ, pos, negsuc}
@@ -24,7 +24,7 @@ use Rattle.binary64.proofs.Equal.{eq-scaled}
 use Rattle.refusal.specs.declared.Refusal.the-variants as R
 use Rattle.conversion.specs.declared.GdsRoundingPolicy.{GdsRoundingPolicy}
 use Rattle.conversion.specs.declared.GdsRoundingPolicy.the-variants.{Nearest, Floor, Ceil, ErrorIfOffGrid}
-use Rattle.conversion.specs.Made.{made, pure}
+use Rattle.conversion.specs.Made.{pure}
 use Rattle.conversion.specs.Convert.{onGrid, rounded, inRange, databaseValue}
 use Rattle.conversion.proofs.MadeLaws.{Yields, made-yields, steps, checked, need-on}
 use Rattle.conversion.proofs.ConvertLaws.{Passed, value-passed, policy-order, accept, rounded-pure}

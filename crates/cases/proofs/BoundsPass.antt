@@ -14,7 +14,7 @@ use Rattle.conversion.specs.Policy.{policyOf}
 use Rattle.conversion.specs.Convert.{databaseValue}
 use Rattle.bounds.specs.Range.{Range, convertBounds, Reached, Between, Spans}
 use Rattle.bounds.specs.Answer.{answerOf, Values, valuesOf}
-use Rattle.bounds.specs.Bounds.{SpansFor, ConvertsBounds}
+use Rattle.bounds.specs.Bounds.{ConvertsBounds}
 use Rattle.cases.specs.Bounds.{Row, one, two, limits, orders, ranges}
 use Rattle.cases.proofs.Open.{opened}
 

@@ -18,7 +18,7 @@ use Rattle.conversion.specs.declared.GdsRoundingPolicy.{GdsRoundingPolicy}
 use Rattle.conversion.specs.declared.Entry.{Entry}
 use Rattle.conversion.specs.Made.{Made, refused, made}
 use Rattle.conversion.specs.Entry.{entryOf}
-use Rattle.conversion.specs.Policy.{policyOf, callerPolicy}
+use Rattle.conversion.specs.Policy.{callerPolicy}
 use Rattle.conversion.proofs.PolicyLaws.{caller-unnamed, caller-with, caller-unit, Caller, unnamed, noUnit, passes, caller}
 use Rattle.sheet.specs.Element.{Head, Element, kindOf, headOf, elementOf}
 use Rattle.sheet.specs.Blocks.{pairsFit, blockOf}

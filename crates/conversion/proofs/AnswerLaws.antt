@@ -1,7 +1,7 @@
 -- A conversion put together from its parts, each way out of the code. Assumes nothing.
 use mathlib.Core.Path.{_≡_, refl, sym, ap, _∙_}
 use mathlib.Core.Bool.{Bool, true, false, cond}
-use mathlib.Core.Option.{Option, none, some}
+use mathlib.Core.Option.{none, some}
 use Prim.Native.Nat.{ℕ}
 use lib.IntN.{ℤ}
 use lib.Ieee.{Float, nan, inf, fin, binary64, eq, div}
@@ -18,7 +18,7 @@ use Rattle.conversion.specs.declared.DatabaseValue.{DatabaseValue}
 use Rattle.conversion.specs.declared.DatabaseValue.the-variants as D
 use Rattle.conversion.specs.declared.PhysicalValue.{PhysicalValue}
 use Rattle.conversion.specs.declared.PhysicalValue.the-variants as P
-use Rattle.conversion.specs.Made.{Made, refused, made, pure, need, _>>=_, _>>_}
+use Rattle.conversion.specs.Made.{refused, made, pure, _>>=_}
 use Rattle.conversion.specs.Convert.{Spot, deviations, ranged, gridValue, databaseValue, convertPhysical, physicalValue, convertBy, convertUnit, arrayEndpoint}
 use Rattle.conversion.specs.Answer.{valueOf, physicalOf}
 use Rattle.conversion.proofs.MadeLaws.{need-on, need-off, refused-on, pure-on}

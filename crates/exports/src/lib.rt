@@ -88,10 +88,10 @@ pub extern "C" fn ravenvanity_convert_bounds(
     ensures { λ r. ⌜ ConvertsBounds policy d lower upper (record { number = r; least = now (least .exit); greatest = now (greatest .exit) }) ⌝ }
 {
     match bounds::convert_bounds(policy, d, lower, upper) {
-        RangeAnswer::Refused { refusal } => {
+        RangeAnswer::Refused { refusal: reason } => {
             *least = 0;
             *greatest = 0;
-            refusal.number()
+            reason.number()
         }
         RangeAnswer::Range {
             least: a,

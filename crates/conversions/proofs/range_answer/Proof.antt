@@ -3,14 +3,12 @@ use mathlib.Core.Path.{_≡_, sym, ap, ap₂, _∙_}
 use mathlib.Core.List.{List}
 use Prim.Native.Nat.{ℕ, _+_, _*_, _^_}
 use native.Mathlib.Nat.{add-zero, zero-add}
-use lib.IntN.{ℤ}
 use lib.Ieee.{Float}
 use mir.Syntax.{w32}
 use mir.Val.{SFits, ofZ}
 use mir.ValLaws.{toZ-ofZ}
 use Rattle.big_endian.specs.Big.{numberAt}
 use Rattle.bounds.specs.declared.RangeAnswer.{RangeAnswer}
-use Rattle.bounds.specs.declared.RangeAnswer.the-variants as A
 use Rattle.bounds.specs.Answer.{valuesOf}
 use Rattle.bounds.specs.Bounds.{ConvertsBounds}
 use Rattle.conversions.specs.declared.Answer.{Answer}

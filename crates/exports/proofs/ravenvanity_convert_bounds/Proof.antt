@@ -10,8 +10,8 @@ use Rattle.exports.proofs.ravenvanity_convert_bounds.Tie as tie
 convert-bounds-requires : tie.Need-convert-bounds-requires
 convert-bounds-requires c κs = search needs
 
-enum-known-refusal : tie.Need-enum-known-refusal
-enum-known-refusal c = search needs
+enum-known-reason : tie.Need-enum-known-reason
+enum-known-reason c = search needs
 
 number-requires : tie.Need-number-requires
 number-requires c κs = search needs
@@ -20,7 +20,7 @@ enum-known-a : tie.Need-enum-known-a
 enum-known-a c = search needs
 
 returns : tie.Need-returns
-returns c = bounds-refused (c .before .before .before .before .convert-bounds .ensures) (c .before .before .refusal .given .1) (c .number .ensures)
+returns c = bounds-refused (c .before .before .before .before .convert-bounds .ensures) (c .before .before .reason .given .1) (c .number .ensures)
 
 returns-2 : tie.Need-returns-2
 returns-2 c =
@@ -30,4 +30,4 @@ returns-2 c =
     rw (toZ-ofZ w32 (g .0 .0) f, toZ-ofZ w32 (g .0 .1 .0) h) (bounds-range (c .before .before .before .convert-bounds .ensures) (g .1))
 
 pub ravenvanity-convert-bounds-spec : {M : Type 1} → statement M
-ravenvanity-convert-bounds-spec = tie.close (tie.spec convert-bounds-requires enum-known-refusal number-requires enum-known-a returns returns-2)
+ravenvanity-convert-bounds-spec = tie.close (tie.spec convert-bounds-requires enum-known-reason number-requires enum-known-a returns returns-2)
