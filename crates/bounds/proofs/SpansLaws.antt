@@ -28,7 +28,7 @@ use Rattle.conversion.specs.Made.{pure}
 use Rattle.conversion.specs.Convert.{onGrid, rounded, inRange, databaseValue}
 use Rattle.conversion.proofs.MadeLaws.{Yields, made-yields, steps, checked, need-on}
 use Rattle.conversion.proofs.ConvertLaws.{Passed, value-passed, policy-order, accept, rounded-pure}
-use Rattle.bounds.specs.Range.{Range, admitted, rangeOf, Reached, Between, Spans}
+use Rattle.bounds.specs.Range.{Range, admitted, rangeOf, Reached, Between, Spans, SpansOne}
 
 -- ---- what strict asks: on the grid
 
@@ -153,8 +153,8 @@ module _ {policy : GdsRoundingPolicy} {d lo hi : Float} {r : Range} (h : Spans p
   pub at-most : q ≤ℤ r .greatest
   at-most = subst (λ (v : ℤ). v ≤ℤ r .greatest) value-is (within .greatest)
 
-pub spans-one : {policy : GdsRoundingPolicy} {d lo hi : Float} {r s : Range} → Spans policy d lo hi r → Spans policy d lo hi s → r ≡ s
-spans-one {r = r} {s = s} h k =
+pub spans-one : SpansOne
+spans-one policy d lo hi r s h k =
     ap₂ (λ (a b : ℤ). record { least = a; greatest = b })
     (both-orders (r .least) (s .least) (at-least h (k .least)) (at-least k (h .least)))
     (both-orders (r .greatest) (s .greatest) (at-most k (h .greatest)) (at-most h (k .greatest)))

@@ -64,3 +64,7 @@ pub record Spans (policy : GdsRoundingPolicy) (d lower upper : Float) (r : Range
   pub least : Reached policy d lower upper (r .least)
   pub greatest : Reached policy d lower upper (r .greatest)
   pub all : (x : Float) → T (fits binary64 x) → T (le lower x) → T (le x upper) → Between policy d x r
+
+-- So `Spans` fixes both values: at most one range has them.
+abbrev pub SpansOne : Type 0
+SpansOne = (policy : GdsRoundingPolicy) (d lower upper : Float) (r s : Range) → Spans policy d lower upper r → Spans policy d lower upper s → r ≡ s

@@ -12,7 +12,7 @@ use Rattle.conversion.specs.declared.GdsRoundingPolicy.the-variants.{ErrorIfOff
 use Rattle.conversion.specs.Made.{refused}
 use Rattle.conversion.specs.Policy.{policyOf}
 use Rattle.conversion.specs.Convert.{databaseValue}
-use Rattle.bounds.specs.Range.{Range, convertBounds, Reached, Between, Spans}
+use Rattle.bounds.specs.Range.{Range, convertBounds, Reached, Between, Spans, SpansOne}
 use Rattle.bounds.specs.Answer.{answerOf, Values, valuesOf}
 use Rattle.bounds.specs.Bounds.{ConvertsBounds}
 use Rattle.cases.specs.Bounds.{Row, one, two, limits, orders, ranges}
@@ -62,6 +62,10 @@ module _ (n : ℕ) (policy : GdsRoundingPolicy) (d lower upper : Float) (v : Val
 
   pub each-between : (x : Float) → T (fits binary64 x) → T (le lower x) → T (le x upper) → Between policy d x range
   each-between = promised .all
+
+  -- whoever else finds the least and the greatest value finds these
+  pub the-values : SpansOne → (r : Range) → Spans policy d lower upper r → r ≡ range
+  the-values one r s = one policy d lower upper r range s promised
 
 -- ---- no double of the range is refused: strict spans nothing from 1 to 2, since it refuses 1.5
 
