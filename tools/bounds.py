@@ -48,8 +48,8 @@ def arguments(words):
 
 
 def numbers(policy, d, lower, upper):
-    if policy not in POLICIES and not (policy.isascii() and policy.isdigit() and int(policy) <= 255):
-        raise Wrong(f"the policy is nearest, floor, ceiling, strict or a number up to 255, not {policy}")
+    if policy not in POLICIES and not (policy.isascii() and policy.isdigit() and len(policy) <= 3 and int(policy) <= 255):
+        raise Wrong(f"the policy is nearest, floor, ceiling, strict or a number up to 255, not {cell_text.shown(policy)}")
     words = (d, "the database unit"), (lower, "the lower end"), (upper, "the upper end")
     try:
         return POLICIES[policy] if policy in POLICIES else int(policy), *(double_of(cell_text.double(word, what)) for word, what in words)

@@ -42,7 +42,7 @@ BAD_TEXTS = (
 BAD_USES = (
     ("", "0 are given"), ("0 --unit 1 --policy 0", "1 is given"), ("0 0 0 --unit 1 --policy 0", "3 are given"), ("0 0 --policy 0", "--unit"),
     ("0 0 --unit 1", "--policy"), ("0 0 --unit", "after --unit"), ("0 0 --unit 1 --unit 1 --policy 0", "twice"), ("0 0 --foo", "--foo"),
-    ("0 0 --unit 1 --policy foo", "not foo"), ("0 0 --unit 1 --policy 256", "255"), ("0 0 --unit 1 --policy -1", "not -1"),
+    ("0 0 --unit 1 --policy foo", "not foo"), ("0 0 --unit 1 --policy 256", "255"), ("0 0 --unit 1 --policy " + "9" * 5000, "255"), ("0 0 --unit 1 --policy -1", "not -1"),
     ("x 0 --unit 1 --policy 0", "the lower end"), ("0 1e999 --unit 1 --policy 0", "beyond the doubles"), ("0 0 --unit 0x12 --policy 0", "the database unit"),
 )
 STORED_BOUNDS = os.path.join(os.path.dirname(os.path.abspath(__file__)), "bounds_cases.txt")

@@ -5,11 +5,11 @@ The answers are the library's: nothing is decided here. A C compiler links it, o
 import ctypes
 import os
 import subprocess
-import tempfile
 
 TARGET = os.path.join(os.path.dirname(os.path.dirname(os.path.abspath(__file__))), "target", "staticlib")
 ARCHIVE = os.path.join(TARGET, "libexports.a")
 SHARED = os.path.join(TARGET, "libexports.so")
+FUNCTIONS = ("ravenvanity_convert_bounds",)
 
 
 class Missing(Exception):
@@ -18,8 +18,7 @@ class Missing(Exception):
 
 def link():
     """Makes the shared object, whole or not at all."""
-    place, made = tempfile.mkstemp(suffix=".so", dir=TARGET)
-    os.close(place)
+    made = f"{SHARED}.{os.getpid()}"
     try:
         command = ["cc", "-shared", "-o", made, "-Wl,--whole-archive", ARCHIVE, "-Wl,--no-whole-archive"]
         ran = subprocess.run(command, stdout=subprocess.PIPE, stderr=subprocess.STDOUT, text=True)
@@ -39,9 +38,13 @@ def load():
     try:
         if not os.path.exists(SHARED) or os.path.getmtime(SHARED) < os.path.getmtime(ARCHIVE):
             link()
-        return ctypes.CDLL(SHARED)
+        library = ctypes.CDLL(SHARED)
     except OSError as fault:
         raise Missing(str(fault)) from None
+    for name in FUNCTIONS:
+        if not hasattr(library, name):
+            raise Missing(f"{os.path.relpath(ARCHIVE)} has no {name}: it is older than this tool, and `./run`, or `rt staticlib exports`, builds it anew")
+    return library
 
 
 def convert_bounds(library, policy, d, lower, upper):

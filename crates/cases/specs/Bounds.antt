@@ -47,7 +47,7 @@ twoAndHalf = 0x4004000000000000
 abbrev three : ℕ
 three = 0x4008000000000000
 
--- 2147483647, 2147483647.5, 2147483648, 2147483648.5, 3000000000.5
+-- 2147483647, 2147483647.5, 2147483648, 2147483648.5, 2147483649, 3000000000.5
 abbrev i32Max : ℕ
 i32Max = 0x41dfffffffc00000
 
@@ -59,6 +59,9 @@ i32Over = 0x41e0000000000000
 
 abbrev i32OverAndHalf : ℕ
 i32OverAndHalf = 0x41e0000000100000
+
+abbrev i32OverAndOne : ℕ
+i32OverAndOne = 0x41e0000000200000
 
 abbrev threeMilliardAndHalf : ℕ
 threeMilliardAndHalf = 0x41e65a0bc0100000
@@ -166,11 +169,14 @@ limits =
     ∷ row strict one three three (to (pos 3) (pos 3))
     ∷ row strict one (up 1 three) (up 1 three) (to (pos 3) (pos 3))
     ∷ row strict one (up 2 three) (up 2 three) (no 18)
-    -- 19: the upper end, under each policy
+    -- 19: the upper end, under each policy; a half up, and what is a step from a whole number is that number
     ∷ row nearest one zero (down 1 i32MaxAndHalf) (to (pos 0) (pos 2147483647))
     ∷ row nearest one zero i32MaxAndHalf (no 19)
+    ∷ row nearest one zero (up 1 i32MaxAndHalf) (no 19)
     ∷ row floor one zero (down 2 i32Over) (to (pos 0) (pos 2147483647))
     ∷ row floor one zero (down 1 i32Over) (no 19)
+    ∷ row floor one zero i32Over (no 19)
+    ∷ row ceiling one zero i32Max (to (pos 0) (pos 2147483647))
     ∷ row ceiling one zero (up 1 i32Max) (to (pos 0) (pos 2147483647))
     ∷ row ceiling one zero (up 2 i32Max) (no 19)
     ∷ row strict one i32Max i32Max (to (pos 2147483647) (pos 2147483647))
@@ -178,10 +184,16 @@ limits =
     -- and the lower
     ∷ row nearest one (minus (down 1 i32OverAndHalf)) zero (to (negsuc 2147483647) (pos 0))
     ∷ row nearest one (minus i32OverAndHalf) zero (no 19)
+    ∷ row nearest one (minus (up 1 i32OverAndHalf)) zero (no 19)
+    ∷ row floor one (minus i32Over) zero (to (negsuc 2147483647) (pos 0))
     ∷ row floor one (minus (up 1 i32Over)) zero (to (negsuc 2147483647) (pos 0))
     ∷ row floor one (minus (up 2 i32Over)) zero (no 19)
-    ∷ row ceiling one (minus (up 2 i32Over)) zero (to (negsuc 2147483647) (pos 0))
+    ∷ row ceiling one (minus (down 2 i32OverAndOne)) zero (to (negsuc 2147483647) (pos 0))
+    ∷ row ceiling one (minus (down 1 i32OverAndOne)) zero (no 19)
+    ∷ row ceiling one (minus i32OverAndOne) zero (no 19)
     ∷ row strict one (minus i32Over) (minus i32Over) (to (negsuc 2147483647) (negsuc 2147483647))
+    ∷ row strict one (minus i32OverAndOne) (minus i32OverAndOne) (no 19)
+    -- both
     ∷ row nearest one (minus i32Over) i32Max (to (negsuc 2147483647) (pos 2147483647))
     ∷ []
 
