@@ -6,13 +6,15 @@
 For each case of the files (their form stands in tools/pack_cases.py): a sheet whose form is sound goes to text and back,
 and must come out as it went in; an expected stream and its entries are read by stream_to_text.py, which must not
 complain; the answer must be the model's. Then faulty texts and damaged streams must get their message and nothing
-else, and so must wrong uses of bounds.py, which must give the answers of tools/bounds_cases.txt where the static library
-is built. The last line counts; the exit status is 0 if nothing was wrong.
+else, and so must wrong uses of bounds.py and survey.py, which must give the answers of tools/bounds_cases.txt and
+tools/survey_cases.txt where the static library is built; a survey's picture must show as many places as its counts say.
+The last line counts; the exit status is 0 if nothing was wrong.
 """
 import os
 import struct
 import sys
 
+import arguments
 import bounds
 import cell_text
 import exported
@@ -20,6 +22,7 @@ import model
 import pack_cases
 import sheet as form
 import stream_to_text
+import survey
 
 BAD_TEXTS = (
     ("", 1, "no `cell` line"), ("# only\n# comments", 2, "no `cell` line"), ("polygon 1 2", 1, "first line is `cell`"),
@@ -39,18 +42,24 @@ BAD_TEXTS = (
     ('cell "A"\n' + "node 1 2\n" * 16384, 16385, "16,383 elements"),
 )
 
-BAD_USES = (
+BAD_BOUNDS = (
     ("", "0 are given"), ("0 --unit 1 --policy 0", "1 is given"), ("0 0 0 --unit 1 --policy 0", "3 are given"), ("0 0 --policy 0", "--unit"),
     ("0 0 --unit 1", "--policy"), ("0 0 --unit", "after --unit"), ("0 0 --unit 1 --unit 1 --policy 0", "twice"), ("0 0 --foo", "--foo"),
     ("0 0 --unit 1 --policy foo", "not foo"), ("0 0 --unit 1 --policy 256", "255"), ("0 0 --unit 1 --policy " + "9" * 5000, "255"), ("0 0 --unit 1 --policy -1", "not -1"),
     ("x 0 --unit 1 --policy 0", "the lower end"), ("0 1e999 --unit 1 --policy 0", "beyond the doubles"), ("0 0 --unit 0x12 --policy 0", "the database unit"),
 )
-STORED_BOUNDS = os.path.join(os.path.dirname(os.path.abspath(__file__)), "bounds_cases.txt")
+BAD_SURVEYS = (
+    ("", "0 are given"), ("1 --unit 1 --policy 0", "1 is given"), ("1 1 1 --unit 1 --policy 0", "3 are given"), ("1 1 --policy 0", "--unit"), ("1 1 --unit 1", "--policy"),
+    ("1 1 --foo", "--foo"), ("1 1 --unit 1 --policy foo", "not foo"), ("x 1 --unit 1 --policy 0", "the pitch"), ("1e999 1 --unit 1 --policy 0", "beyond the doubles"),
+    ("1 1.5 --unit 1 --policy 0", "not 1.5"), ("1 -1 --unit 1 --policy 0", "not -1"), ("1 4294967296 --unit 1 --policy 0", "4294967295"), ("1 " + "9" * 5000 + " --unit 1 --policy 0", "..."),
+    ("1 x --unit 1 --policy 0", "the number of places"),
+)
+HERE = os.path.dirname(os.path.abspath(__file__))
 
 
 class Count:
     def __init__(self):
-        self.cases = self.there_and_back = self.ill = self.streams = self.entries = self.damaged = self.bounds = self.wrong = 0
+        self.cases = self.there_and_back = self.ill = self.streams = self.entries = self.damaged = self.asked = self.wrong = 0
 
     def fail(self, what):
         self.wrong += 1
@@ -105,35 +114,69 @@ def bad_texts(count):
                 count.fail(f"{text[:60]!r}: {bad}")
 
 
-def bad_uses(count):
-    for words, why in BAD_USES:
+def bad_uses(tool, uses, count):
+    for words, why in uses:
         try:
-            bounds.numbers(*bounds.arguments(words.split()))
-            count.fail(f"bounds.py accepts: {words}")
-        except bounds.Wrong as wrong:
+            tool.numbers(words.split())
+            count.fail(f"{tool.__name__}.py accepts: {words}")
+        except arguments.Wrong as wrong:
             if why not in str(wrong):
-                count.fail(f"bounds.py {words}: {wrong}")
+                count.fail(f"{tool.__name__}.py {words}: {wrong}")
 
 
-def stored_bounds(count):
-    """What bounds.py says of each stored case. Without the library nothing can be asked, and a line says so."""
-    try:
-        functions = exported.load()
-    except exported.Missing as missing:
-        print(f"bounds.py is not tried on cases: {missing}")
-        return
-    with open(STORED_BOUNDS, encoding="ascii") as f:
+def range_words(least, greatest):
+    return f"least {least}, greatest {greatest}"
+
+
+def survey_words(clean, due, refused):
+    return f"clean {clean}, due {due}, refused {refused}"
+
+
+def stored(tool, library, layout, words, count):
+    """What a tool says of each stored case, in its first line."""
+    with open(os.path.join(HERE, f"{tool.__name__}_cases.txt"), encoding="ascii") as f:
         for line in f:
             if line.startswith("#"):
                 continue
             name, given, answer = line.rstrip("\n").split(" ", 2)
-            count.bounds += 1
-            said, status = bounds.told(functions, *struct.unpack(">Bddd", bytes.fromhex(given)))
-            word, *values = answer.split(" ")
-            if word == "ok" and (said, status) != (f"least {values[0]}, greatest {values[1]}", 0):
-                count.fail(f"{name}: {answer}, and bounds.py says: {said}")
-            if word == "no" and not (said.startswith((f"refusal {values[0]}:", f"refusal {values[0]},")) and status == 1):
-                count.fail(f"{name}: {answer}, and bounds.py says: {said}")
+            count.asked += 1
+            values = struct.unpack(layout, bytes.fromhex(given))
+            said, status = tool.told(library, *values)
+            first, *rest = said.split("\n")
+            word, *numbers = answer.split(" ")
+            if word == "ok" and (first, status) != (words(*numbers), 0):
+                count.fail(f"{name}: {answer}, and {tool.__name__}.py says: {first}")
+            if word == "no" and not (first.startswith((f"refusal {numbers[0]}:", f"refusal {numbers[0]},")) and status == 1):
+                count.fail(f"{name}: {answer}, and {tool.__name__}.py says: {first}")
+            if tool is survey and word == "ok":
+                shown(name, rest, values[-1], list(map(int, numbers)), count)
+
+
+def shown(name, lines, n, counts, count):
+    """Where a mark is one place, the marks are as many as the counts say; else none is x without a refused place, nor o without one due. A clean row has none."""
+    if counts[0] == n:
+        if lines != ["no place is disturbed"]:
+            count.fail(f"{name}: a clean row is shown as {lines}")
+        return
+    marks = "".join(line[7:] for line in lines[1:])
+    found = [marks.count(mark) for mark in ".ox"]
+    if lines[0].startswith("a mark is one place:"):
+        right = found == counts and n <= survey.LINE * survey.LINES
+    else:
+        right = sum(found) <= survey.LINE * survey.LINES and found[1] <= counts[1] and found[2] <= counts[2] and bool(found[1] + found[2]) == bool(counts[1] + counts[2])
+    if not right:
+        count.fail(f"{name}: the picture has {found} places, and the counts are {counts}")
+
+
+def stored_answers(count):
+    """Without the library nothing can be asked, and a line says so."""
+    try:
+        library = exported.load()
+    except exported.Missing as missing:
+        print(f"bounds.py and survey.py are not tried on cases: {missing}")
+        return
+    stored(bounds, library, ">Bddd", range_words, count)
+    stored(survey, library, ">BddI", survey_words, count)
 
 
 def one_case(name, given, lines, count):
@@ -151,8 +194,9 @@ def main():
         sys.exit("check_tools.py: files of cases, please")
     count = Count()
     bad_texts(count)
-    bad_uses(count)
-    stored_bounds(count)
+    bad_uses(bounds, BAD_BOUNDS, count)
+    bad_uses(survey, BAD_SURVEYS, count)
+    stored_answers(count)
     try:
         for path in sys.argv[1:]:
             pack_cases.pack(path)
@@ -161,7 +205,7 @@ def main():
     except (OSError, pack_cases.Bad) as fault:
         sys.exit(f"check_tools.py: {form.plain(fault)}")
     print(f"{count.cases} cases: {count.there_and_back} sheets there and back, {count.ill} ill-formed; {count.streams} streams and "
-          f"{count.entries} entries read; {len(BAD_TEXTS)} faulty texts, {count.damaged} cut streams; {count.bounds} bounds, {len(BAD_USES)} wrong uses; {count.wrong} wrong")
+          f"{count.entries} entries read; {len(BAD_TEXTS)} faulty texts, {count.damaged} cut streams; {count.asked} bounds and surveys, {len(BAD_BOUNDS) + len(BAD_SURVEYS)} wrong uses; {count.wrong} wrong")
     sys.exit(count.wrong != 0)
 
 

@@ -479,7 +479,7 @@ streams =
 
 # ---- the definitions that a computed test opens
 
-BELOW = "big_endian binary64 units gds_format conversion bounds parsing sheet stream cell reading".split()
+BELOW = "big_endian binary64 units gds_format conversion bounds survey parsing sheet stream cell reading".split()
 IEEE = "ofBits toBits mul div sub neg lt le eq ofInt round sum add size".split()
 
 

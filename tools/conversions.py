@@ -1,22 +1,22 @@
 #!/usr/bin/env python3
-"""Known results of conversions to the database grid and of lengths within bounds, for the program `conversions`.
+"""Known results of conversions to the database grid, of lengths within bounds and of pitch surveys, for the program `conversions`.
 
 A model of convert_unit, convert_physical and checked_array_endpoint of gdsr's write/conversion.rs, and of document 02's
-request 11. Products, quotients and differences are Python's own, IEEE doubles; rounding to whole numbers is done exactly,
+requests 11 and 12. Products, quotients and differences are Python's own, IEEE doubles; rounding to whole numbers is done exactly,
 over fractions, and the step between neighbours by the bit patterns. Where two bounds are few steps apart, every double
 between them is converted. Each case is 54 bytes on standard output, numbers with the highest byte first:
 
-    0  1  what: 0 an integer with its unit, 1 a double with its unit, 2 an array's endpoint, 3 two bounds
+    0  1  what: 0 an integer with its unit, 1 a double with its unit, 2 an array's endpoint, 3 two bounds, 4 a pitch survey
     1  1  policy: 0 nearest, 1 floor, 2 ceiling, 3 strict
     2  8  database unit
-   10  8  the integer (four zeros, then 32 bits); the double; of an endpoint the physical value; the lower bound
-   18  8  the unit; of an endpoint the origin and the spacing, 32 bits each; the upper bound
-   26  4  of an endpoint the count, else 0
-   30  8  two zero bytes, the refusal's number or 0, 1 if the deviation counts or 0, the database value in 32 bits or 0; of bounds the least
-   38  8  the physical value of a deviation that counts, else 0; of bounds four zeros and the greatest database value in 32 bits, or 0
-   46  8  its error, else 0
+   10  8  the integer (four zeros, then 32 bits); the double; of an endpoint the physical value; the lower bound; the pitch
+   18  8  the unit; of an endpoint the origin and the spacing, 32 bits each; the upper bound; of a survey 0
+   26  4  of an endpoint the count, of a survey the number of places, else 0
+   30  8  two zero bytes, the refusal's number or 0, 1 if the deviation counts or 0, the database value in 32 bits or 0; of bounds the least; of a survey the clean places
+   38  8  the physical value of a deviation that counts, else 0; of bounds four zeros and the greatest database value in 32 bits, or 0; of a survey the places with an entry due
+   46  8  its error, else 0; of a survey the refused places
 
-The cases of bounds_cases.txt, whose answers are another model's, stand last. With the argument `text` it writes lines to
+The cases of bounds_cases.txt and of survey_cases.txt, whose answers are another model's, stand after those of their kind. With the argument `text` it writes lines to
 read. tools/README.md says how it is run.
 """
 import math
@@ -26,11 +26,12 @@ import struct
 import sys
 from fractions import Fraction
 
-POLICY, DATABASE_UNIT, SOURCE_UNIT, NOT_FINITE, OFF_GRID, OUT_OF_RANGE, BAD_BOUNDS = 1, 2, 16, 17, 18, 19, 32
+POLICY, DATABASE_UNIT, SOURCE_UNIT, NOT_FINITE, OFF_GRID, OUT_OF_RANGE, BAD_BOUNDS, SURVEY_COUNT = 1, 2, 16, 17, 18, 19, 32, 33
 NEAREST, FLOOR, CEIL, STRICT = range(4)
-INTEGER, DOUBLE, ENDPOINT, BOUNDS = range(4)
+INTEGER, DOUBLE, ENDPOINT, BOUNDS, SURVEY = range(5)
+MAX_PLACES = 65536
 FEW = 64  # doubles between two bounds that are all looked at
-STORED = os.path.join(os.path.dirname(os.path.abspath(__file__)), "bounds_cases.txt")
+HERE = os.path.dirname(os.path.abspath(__file__))
 
 
 class Refused(Exception):
@@ -109,12 +110,16 @@ def checked_array_endpoint(d, origin, spacing, count, p):
     return deviation(d, p, in_range(origin + spacing * count))
 
 
-def convert_bounds(policy, d, lower, upper):
-    """(least, greatest) database value of all doubles between the two"""
+def check_caller(policy, d):
     if policy > STRICT:
         raise Refused(POLICY)
     if not (math.isfinite(d) and d > 0):
         raise Refused(DATABASE_UNIT)
+
+
+def convert_bounds(policy, d, lower, upper):
+    """(least, greatest) database value of all doubles between the two"""
+    check_caller(policy, d)
     if not (math.isfinite(lower) and math.isfinite(upper)):
         raise Refused(NOT_FINITE)
     if lower > upper or policy == STRICT and lower != upper:
@@ -125,6 +130,22 @@ def convert_bounds(policy, d, lower, upper):
         every = [convert_physical(policy, d, double_at(place))[0] for place in range(places[0], places[1] + 1)]
         assert (min(every), max(every)) == (least, greatest), (policy, d, lower, upper)
     return least, greatest
+
+
+def survey_pitch(policy, d, pitch, n):
+    """[clean, due, refused] of the places 0 to n - 1"""
+    check_caller(policy, d)
+    if not 1 <= n <= MAX_PLACES:
+        raise Refused(SURVEY_COUNT)
+    if not math.isfinite(pitch):
+        raise Refused(NOT_FINITE)
+    counts = [0, 0, 0]
+    for i in range(n):
+        try:
+            counts[convert_physical(policy, d, float(i) * pitch)[1]] += 1
+        except Refused:
+            counts[2] += 1
+    return counts
 
 
 def case(what, policy, d, operands, answer):
@@ -164,15 +185,25 @@ def bounds(policy, d, lower, upper):
     return record, f"policy {policy} unit {d!r}: from {lower!r} to {upper!r} -> {said}"
 
 
-def stored_bounds():
+def survey(policy, d, pitch, n):
+    try:
+        clean, due, refused = survey_pitch(policy, d, pitch, n)
+        known, said = struct.pack(">QQQ", clean, due, refused), f"{clean} clean, {due} due, {refused} refused"
+    except Refused as refusal:
+        known, said = struct.pack(">xxBBiQQ", refusal.args[0], 0, 0, 0, 0), f"refused {refusal.args[0]}"
+    record = struct.pack(">BBddQI", SURVEY, policy, d, pitch, 0, n) + known
+    return record, f"policy {policy} unit {d!r}: {n} places of {pitch!r} -> {said}"
+
+
+def stored(path, layout, made, words):
     """Another model's cases; this one's answer must be the same."""
-    with open(STORED, encoding="ascii") as f:
+    with open(os.path.join(HERE, path), encoding="ascii") as f:
         for line in f:
             if line.startswith("#"):
                 continue
             name, given, answer = line.rstrip("\n").split(" ", 2)
-            record, said = bounds(*struct.unpack(">Bddd", bytes.fromhex(given)))
-            told = "refused " + answer[3:] if answer.startswith("no ") else " to ".join(answer.split(" ")[1:])
+            record, said = made(*struct.unpack(layout, bytes.fromhex(given)))
+            told = "refused " + answer[3:] if answer.startswith("no ") else words.format(*answer.split(" ")[1:])
             if not said.endswith(f"-> {told}"):
                 sys.exit(f"conversions.py: {name}: stored {answer}, and here {said}")
             yield record, f"{name}: {said}"
@@ -248,6 +279,29 @@ def pairs():
             yield (STRICT, 4, 255), d, lower, 0.0
 
 
+def rows():
+    """(policies, database unit, pitch, number of places)"""
+    every, some, most, least = range(4), (NEAREST, STRICT), sys.float_info.max, 5e-324
+    up, down = (lambda x: double_at(ordered(x) + 1)), (lambda x: double_at(ordered(x) - 1))
+    # on the grid, beside it, off it, either way
+    for pitch in (0.0, -0.0, 1.0, up(1.0), down(1.0), 0.5, -0.5, 0.25, -3.0, least, -least):
+        yield every, 1.0, pitch, 9
+    # decimals: products and quotients that are rounded
+    for d, pitch in ((0.1, 0.3), (1e-9, 1e-9), (1e-9, 1e-7), (1e-9, 4.8e-7), (1e-9, -1.3e-7), (1e-9, 2.5e-9), (5e-9, 1.28e-7)):
+        yield every, d, pitch, 1000
+    # out of range, a quotient and a product that are not finite
+    for d, pitch in ((1.0, 2147483647.0), (1.0, 2147483648.0), (1.0, -2147483648.0), (1.0, -2147483649.0), (0.5, most / 2), (1.0, most), (most, most), (most, most / 3), (least, least), (least, 1.0)):
+        yield every, d, pitch, 4
+    # the number of places, and what comes before and after it
+    for d in (1.0, 0.0, math.nan):
+        for pitch in (0.5, math.inf, -math.inf, math.nan):
+            for n in (0, 1, MAX_PLACES, MAX_PLACES + 1, 2**32 - 1):
+                yield (some if d == 1.0 and pitch == 0.5 else (NEAREST, 4)), d, pitch, n
+    # the unit
+    for d in (-0.0, least, -least, -1.0, most, math.inf, -math.inf):
+        yield (NEAREST, 255), d, 1.0, 3
+
+
 def cases():
     for d, value, unit in values():
         for policy in range(4):
@@ -272,7 +326,11 @@ def cases():
     for policies, d, lower, upper in pairs():
         for policy in policies:
             yield bounds(policy, d, lower, upper)
-    yield from stored_bounds()
+    yield from stored("bounds_cases.txt", ">Bddd", bounds, "{} to {}")
+    for policies, d, pitch, n in rows():
+        for policy in policies:
+            yield survey(policy, d, pitch, n)
+    yield from stored("survey_cases.txt", ">BddI", survey, "{} clean, {} due, {} refused")
 
 
 def main():

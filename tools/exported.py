@@ -9,7 +9,7 @@ import subprocess
 TARGET = os.path.join(os.path.dirname(os.path.dirname(os.path.abspath(__file__))), "target", "staticlib")
 ARCHIVE = os.path.join(TARGET, "libexports.a")
 SHARED = os.path.join(TARGET, "libexports.so")
-FUNCTIONS = ("ravenvanity_convert_bounds",)
+FUNCTIONS = ("ravenvanity_convert_bounds", "ravenvanity_survey_pitch")
 
 
 class Missing(Exception):
@@ -55,3 +55,13 @@ def convert_bounds(library, policy, d, lower, upper):
     least, greatest = ctypes.c_int32(), ctypes.c_int32()
     number = function(ctypes.byref(least), ctypes.byref(greatest), policy, d, lower, upper)
     return number, least.value, greatest.value
+
+
+def survey_pitch(library, policy, d, pitch, n):
+    """(0, clean, due, refused), or (the refusal's number, 0, 0, 0)"""
+    function = library.ravenvanity_survey_pitch
+    function.restype = ctypes.c_uint8
+    function.argtypes = [ctypes.POINTER(ctypes.c_uint32)] * 3 + [ctypes.c_uint8] + [ctypes.c_double] * 2 + [ctypes.c_uint32]
+    counts = [ctypes.c_uint32() for _ in range(3)]
+    number = function(*map(ctypes.byref, counts), policy, d, pitch, n)
+    return number, *(count.value for count in counts)

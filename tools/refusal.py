@@ -1,5 +1,5 @@
 #!/usr/bin/env python3
-"""Says what a refusal means: number and block, as the program `structure` prints them; 32 is of bounds.py. A convenience, outside the proof.
+"""Says what a refusal means: number and block, as the program `structure` prints them; 32 is of bounds.py, 33 of survey.py. A convenience, outside the proof.
 
     refusal.py NUMBER [BLOCK]     a few lines about one
     refusal.py                    the whole table
@@ -44,6 +44,7 @@ TABLE = {
     22: (CALLER, "the report is too short for the entries, 33 bytes each (the program's has 8,192 bytes)", "after 21", ONCE),
     32: (CALLER, "the lower end is above the upper, or the policy is strict and the ends are not equal",
          "of two bounds alone: after 17 of an end that is not finite, before the ends' other checks", NO_CELL),
+    33: (CALLER, "the number of places is not 1 to 65,536", "of a pitch survey alone: after 2, before 17 of a pitch that is not finite", NO_CELL),
 }
 
 
@@ -83,7 +84,7 @@ def main():
     else:
         number = whole_number(given[0], "a refusal")
         if number not in TABLE:
-            sys.exit(f"refusal.py: there is no refusal {number}; they run from 1 to 22, and 32")
+            sys.exit(f"refusal.py: there is no refusal {number}; they run from 1 to 22, then 32 and 33")
         print("\n".join(about(number, whole_number(given[1], "a block") if len(given) == 2 else None)))
 
 

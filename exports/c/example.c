@@ -1,6 +1,7 @@
 // Writes document 01's array: origin (0.5, 0), spacing (10.5, 0), 4 columns, 1 row, to the nearest grid point of d = 1.
 // Prints the structure and the one report entry, and measures first, as a caller who owns the memory does.
-// Then asks where the column spacing may come to lie if etching leaves it within 10.25 to 10.75, and with the ends exchanged.
+// Then asks where the column spacing may come to lie if etching leaves it within 10.25 to 10.75, and with the ends exchanged;
+// and how many of 4 places that spacing disturbs, and of none.
 #include "ravenvanity.h"
 #include <stdio.h>
 #include <stdlib.h>
@@ -91,5 +92,11 @@ int main(void) {
     printf("10.25 to 10.75: %d %d %d\n", number, least, greatest_value);
     number = ravenvanity_convert_bounds(&least, &greatest_value, 0, 1, 10.75, 10.25);
     printf("10.75 to 10.25: %d %d %d\n", number, least, greatest_value);
+
+    uint32_t clean, due, refused;
+    number = ravenvanity_survey_pitch(&clean, &due, &refused, 0, 1, 10.5, 4);
+    printf("4 places of 10.5: %d %u %u %u\n", number, clean, due, refused);
+    number = ravenvanity_survey_pitch(&clean, &due, &refused, 0, 1, 10.5, 0);
+    printf("0 places of 10.5: %d %u %u %u\n", number, clean, due, refused);
     return 0;
 }

@@ -1,5 +1,5 @@
-/* The proved GDSII cell writer, and lengths within bounds: document 01 has the cell sheet, the refusals and the report
- * entry, document 02 the bounds (its request 11).
+/* The proved GDSII cell writer, lengths within bounds, and the pitch survey: document 01 has the cell sheet, the refusals
+ * and the report entry, document 02 the bounds and the survey (its requests 11 and 12).
  *
  * No pointer may be NULL, not even with length 0; the sheet, the two buffers and the answers must not overlap.
  * Nothing else is asked of a caller: every sheet, number and length has an answer. Nothing is kept between calls, no
@@ -23,6 +23,7 @@ extern "C" {
 
 #define RAVENVANITY_ENTRY_LENGTH 33
 #define RAVENVANITY_MAX_SHEET 16777216
+#define RAVENVANITY_MAX_PLACES 65536
 
 /* What writing takes: a report of *entries * RAVENVANITY_ENTRY_LENGTH bytes and an output of *length are enough. */
 uint8_t ravenvanity_measure_cell(const uint8_t *sheet, size_t sheet_length,
@@ -46,6 +47,16 @@ uint8_t ravenvanity_write_cell(const uint8_t *sheet, size_t sheet_length,
  * in the order 1, 2, 17 of an end, 32, then the lower end's 17 of the quotient, 18, 19, then the upper's. */
 uint8_t ravenvanity_convert_bounds(int32_t *least, int32_t *greatest,
                                    uint8_t policy, double d, double lower, double upper);
+
+/* How many places of a row a pitch disturbs. Place i, from 0 to n - 1, is i times the pitch, one product of doubles, in
+ * physical units. Returns 0 with the number of places that are converted with no report entry due (*clean), that are
+ * converted with one due (*due), and that are refused (*refused); together they make n. Else the refusal's number, and all
+ * three are 0:
+ *     1  policy above 3                            2  d not finite and positive
+ *    33  n outside 1 to RAVENVANITY_MAX_PLACES     17  the pitch not finite
+ * in the order 1, 2, 33, 17. */
+uint8_t ravenvanity_survey_pitch(uint32_t *clean, uint32_t *due, uint32_t *refused,
+                                 uint8_t policy, double d, double pitch, uint32_t n);
 
 #ifdef __cplusplus
 }

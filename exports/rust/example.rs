@@ -1,4 +1,5 @@
-//! Writes document 01's smallest cell, shows a refusal, and asks where a length within bounds may come to lie.
+//! Writes document 01's smallest cell, shows a refusal, asks where a length within bounds may come to lie, and how many places of a
+//! row a pitch disturbs.
 mod ravenvanity;
 
 fn hex(bytes: &[u8]) -> String {
@@ -29,4 +30,6 @@ fn main() {
     println!("half of the sheet: {:?}", ravenvanity::written(0, 1.0, &sheet[..20]));
     println!("10.25 to 10.75: {:?}", ravenvanity::convert_bounds(0, 1.0, 10.25, 10.75));
     println!("10.75 to 10.25: {:?}", ravenvanity::convert_bounds(0, 1.0, 10.75, 10.25));
+    println!("4 places of 10.5: {:?}", ravenvanity::survey_pitch(0, 1.0, 10.5, 4));
+    println!("0 places of 10.5: {:?}", ravenvanity::survey_pitch(0, 1.0, 10.5, 0));
 }

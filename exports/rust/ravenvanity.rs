@@ -1,5 +1,5 @@
-//! The proved GDSII cell writer and lengths within bounds, for Rust. Document 01 has the cell sheet, the refusals and the
-//! report entry, document 02 the bounds (its request 11).
+//! The proved GDSII cell writer, lengths within bounds and the pitch survey, for Rust. Document 01 has the cell sheet, the
+//! refusals and the report entry, document 02 the bounds and the survey (its requests 11 and 12).
 //! The borrow checker sees to what the C interface asks: no null pointer and no overlap.
 
 /// The bytes of one report entry.
@@ -30,6 +30,14 @@ pub struct Range {
     pub greatest: i32,
 }
 
+/// How many places of a row are converted with no report entry due, are converted with one due, and are refused.
+#[derive(Clone, Copy, Debug, PartialEq, Eq)]
+pub struct Counts {
+    pub clean: u32,
+    pub due: u32,
+    pub refused: u32,
+}
+
 unsafe extern "C" {
     fn ravenvanity_measure_cell(
         sheet: *const u8,
@@ -56,6 +64,7 @@ unsafe extern "C" {
         d: f64,
     ) -> u8;
     fn ravenvanity_convert_bounds(least: &mut i32, greatest: &mut i32, policy: u8, d: f64, lower: f64, upper: f64) -> u8;
+    fn ravenvanity_survey_pitch(clean: &mut u32, due: &mut u32, refused: &mut u32, policy: u8, d: f64, pitch: f64, n: u32) -> u8;
 }
 
 fn answer(number: u8, block: usize, accepted: Accepted) -> Result<Accepted, Refusal> {
@@ -126,4 +135,15 @@ pub fn convert_bounds(policy: u8, d: f64, lower: f64, upper: f64) -> Result<Rang
     // SAFETY: both pointers are of live fields, which do not overlap.
     let number = unsafe { ravenvanity_convert_bounds(&mut range.least, &mut range.greatest, policy, d, lower, upper) };
     if number == 0 { Ok(range) } else { Err(Refusal { number, block: 0 }) }
+}
+
+/// How many places of a row a pitch disturbs: place i, from 0 to n - 1, is i times the pitch, one product of doubles. The
+/// three counts make n. Refusals: 1, 2, 33 where n is not 1 to 65,536, and 17 where the pitch is not finite.
+#[allow(dead_code)] // for users; the harness compares cells
+pub fn survey_pitch(policy: u8, d: f64, pitch: f64, n: u32) -> Result<Counts, Refusal> {
+    let mut counts = Counts { clean: 0, due: 0, refused: 0 };
+    // SAFETY: the pointers are of live fields, which do not overlap.
+    let number =
+        unsafe { ravenvanity_survey_pitch(&mut counts.clean, &mut counts.due, &mut counts.refused, policy, d, pitch, n) };
+    if number == 0 { Ok(counts) } else { Err(Refusal { number, block: 0 }) }
 }

@@ -1,9 +1,9 @@
--- Doubles that are whole numbers: as far as 2 ^ 53 their products, quotients by 1, sums and `mul_add` are exact; they round to themselves, and two of one value are at most a step apart. Assumes nothing.
+-- Doubles that are whole numbers: as far as 2 ^ 53 their products, quotients by 1, sums and `mul_add` are exact; zero times and by another number is zero; they round to themselves, and two of one value are at most a step apart. Assumes nothing.
 use mathlib.Core.Path.{_≡_, refl, sym, ap, ap₂, _∙_, subst}
 use mathlib.Core.Logic.{inl, inr}
 use mathlib.Core.Bool.{Bool, true, false, not, _&&_, Bool·beq, cond}
-use Prim.Native.Nat.{ℕ, zero, suc, _+_, _-_, _*_, _^_, _≤_, _<_}
-use native.Mathlib.Nat.{le-trans, le-of-eq, mul-assoc, mul-comm, mul-left-comm, mul-right-comm, mul-one, one-mul, mul-pos, add-mul, mul-sub, le-of-mul-le-mul-right, lt-of-mul-lt-mul-right}
+use Prim.Native.Nat.{ℕ, zero, suc, _+_, _-_, _*_, _^_, _≤_, _<_, zero-le}
+use native.Mathlib.Nat.{le-trans, le-of-eq, mul-assoc, mul-comm, mul-left-comm, mul-right-comm, mul-one, one-mul, zero-mul, mul-pos, add-mul, mul-sub, le-of-mul-le-mul-right, lt-of-mul-lt-mul-right}
 use native.Mathlib.Omega.{arith}
 use lib.Dec.{T, ltb, ltb→lt, nltb→le, lit<}
 use lib.IntN.{ℤ, pos, negsuc, negℤ, natAbs, +ℤ-comm, _+ℤ_, _*ℤ_}
@@ -12,13 +12,15 @@ use lib.Ieee as Ieee
 use lib.Ieee.Fits.{round-fits, down-pos}
 use lib.Ieee.Exact.{HasValue}
 use lib.Ieee.Back.{round-whole}
+use lib.Ieee.Positive.{num, den, positive, den-pos}
 use lib.Ieee.Scale.{finite, round-same}
 use Rattle.binary64.specs.Value.{unit, sizeOf, halfUp, negative, signed, scaled, roundAway, zero64, one64}
-use Rattle.binary64.specs.Step.{oneStep}
+use Rattle.binary64.specs.Step.{oneStep, nearestDouble}
 use Rattle.binary64.specs.Step as Step
 use Rattle.binary64.specs.Fma.{times, plus, fma}
-use Rattle.binary64.proofs.Signed.{signed-abs, signed-neg, signed-scale, unlike-plus, signed-times, signed-plus, minus-less, minus-more}
+use Rattle.binary64.proofs.Signed.{signed-zero, signed-abs, signed-neg, signed-scale, unlike-plus, signed-times, signed-plus, minus-less, minus-more}
 use Rattle.binary64.proofs.ValueLaws.{size-of-value, sign-of-value}
+use Rattle.binary64.proofs.Quotient.{num-pos, div-is as div-round}
 use Rattle.binary64.proofs.Order.{has-finite}
 use Rattle.binary64.proofs.StepLaws.{step-self}
 use Rattle.binary64.proofs.Snapping.{half-up-whole}
@@ -115,6 +117,37 @@ div-is {x} {z} h l = go x (h .value)
         (whole-round (unlike s false) (m * up e * 1) (1 * 1 * down e) (h .size) (mul-pos (lit< tt) (down-pos e)) (v .1 ∙ ap (λ (c : ℕ). h .size * c) (sym (one-mul (down e))))
         (le-trans (le-of-eq (is-abs h)) l))
 
+-- ---- zero times a finite number, and by a positive one
+
+none-value : {x : Float} (h : Is x (pos 0)) → HasValue x (h .sign) 0 1
+none-value {x} h = subst (λ (n : ℕ). HasValue x (h .sign) n 1) (is-abs h) (h .value)
+
+none-round : (s : Bool) (a c : ℕ) → 0 < c → a ≡ 0 → Is (round binary64 s a c) (pos 0)
+none-round s a c C e = is-same (signed-zero s) (whole-round s a c 0 C (e ∙ sym (zero-mul c)) zero-le)
+
+pub none-times : {x : Float} → Is x (pos 0) → (y : Float) → T (finite y) → Is (mul binary64 x y) (pos 0)
+unfolding mul
+none-times {x} h y f = go x y (none-value h) f
+  where
+    go : (x y : Float) → HasValue x (h .sign) 0 1 → T (finite y) → Is (mul binary64 x y) (pos 0)
+    go nan y v f = absurd v
+    go (inf s) y v f = absurd v
+    go (fin s m e) nan v f = absurd f
+    go (fin s m e) (inf t) v f = absurd f
+    go (fin s m e) (fin t n d) v f =
+        none-round (unlike s t) (m * up e * (n * up d)) (down e * down d) (mul-pos (down-pos e) (down-pos d))
+        (ap (λ (k : ℕ). k * (n * up d)) (sym (mul-one (m * up e)) ∙ v .1 ∙ zero-mul (down e)) ∙ zero-mul (n * up d))
+
+pub none-by : {x : Float} → Is x (pos 0) → (d : Float) → T (positive d) → Is (div binary64 x d) (pos 0)
+none-by {x} h d b =
+    subst (λ (y : Float). Is y (pos 0)) (sym (div-round binary64 x d (is-finite h) b))
+    (none-round (negative x) (num x * den d) (num d * den x) (mul-pos (num-pos d b) (den-pos x)) (ap (λ (k : ℕ). k * den d) (none-num x (none-value h)) ∙ zero-mul (den d)))
+  where
+    none-num : (x : Float) → HasValue x (h .sign) 0 1 → num x ≡ 0
+    none-num nan v = absurd v
+    none-num (inf s) v = absurd v
+    none-num (fin s m e) v = sym (mul-one (m * up e)) ∙ v .1 ∙ zero-mul (down e)
+
 -- ---- ±m + ±k, over the denominator c
 
 module _ (m k c : ℕ) (C : 0 < c) (l : m + k ≤ 2 ^ 53) where
@@ -210,6 +243,13 @@ is-size {x} h = size-of-value x (h .sign) (h .size * unit) (widen x (h .sign) (h
 pub is-round : {x : Float} {z : ℤ} → Is x z → roundAway x ≡ z
 unfolding roundAway
 is-round h = ap₂ signed (is-sign h) (ap halfUp (is-size h) ∙ half-up-whole (h .size)) ∙ h .is
+
+pub nearest-is : {x : Float} {z : ℤ} → Is x z → natAbs z ≤ 2 ^ 53 → Is (nearestDouble x) z
+unfolding nearestDouble
+nearest-is {x} h l =
+    let n = halfUp (sizeOf x) in
+    let e : n ≡ h .size = ap halfUp (is-size h) ∙ half-up-whole (h .size) in
+    is-same (ap₂ signed (is-sign h) e ∙ h .is) (whole-round (negative x) n 1 n (lit< tt) (sym (mul-one n)) (le-trans (le-of-eq (e ∙ is-abs h)) l))
 
 is-scaled : {x : Float} {z : ℤ} → Is x z → scaled x ≡ z *ℤ pos unit
 unfolding scaled

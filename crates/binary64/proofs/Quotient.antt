@@ -35,7 +35,7 @@ div-is f (fin s m e) (fin false n g) a b =
     cond-no (eqb n 0) (cond (eqb m 0) nan (inf (unlike s false))) (round f (unlike s false) (m * up e * down g) (n * up g * down e)) (not-zero n (ltb→lt 0 n b))
     ∙ ap (λ (t : Bool). round f t (m * up e * down g) (n * up g * down e)) (same-sign s)
 
-num-pos : (x : Float) → T (positive x) → 0 < num x
+pub num-pos : (x : Float) → T (positive x) → 0 < num x
 num-pos nan p = absurd p
 num-pos (inf s) p = absurd p
 num-pos (fin true m e) p = absurd p

@@ -15,7 +15,8 @@ use Rattle.conversion.specs.Convert.{databaseValue}
 use Rattle.bounds.specs.Range.{Range, convertBounds, Reached, Between, Spans, SpansOne}
 use Rattle.bounds.specs.Answer.{answerOf, Values, valuesOf}
 use Rattle.bounds.specs.Bounds.{ConvertsBounds}
-use Rattle.cases.specs.Bounds.{Row, one, two, limits, orders, ranges}
+use Rattle.cases.specs.Doubles.{one, two}
+use Rattle.cases.specs.Bounds.{Row, limits, orders, ranges}
 use Rattle.cases.proofs.Open.{opened}
 
 -- ---- the rows

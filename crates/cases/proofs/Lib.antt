@@ -8,3 +8,4 @@ pub mod NeighboursPass
 pub mod ReadPass
 pub mod EdgesPass
 pub mod BoundsPass
+pub mod SurveyPass

@@ -1,10 +1,9 @@
 -- Two bounds and what is answered of them (document 02, request 11), by hand: one below, at and above each limit, two faults at once for each neighbouring pair of the order, and ranges under each policy. Assumes nothing.
 use mathlib.Core.List.{List, [], _∷_}
-use Prim.Native.Nat.{ℕ, _+_, _-_, _^_}
+use Prim.Native.Nat.{ℕ}
 use lib.IntN.{ℤ, pos, negsuc}
-use Rattle.binary64.specs.Step.{orderedBits}
 use Rattle.bounds.specs.Answer.{Values}
-use Rattle.cases.specs.Neighbours.{bitsAt}
+use Rattle.cases.specs.Doubles.{up, down, minus, zero, least, half, one, two, twoAndHalf, three, i32Max, i32MaxAndHalf, i32Over, i32OverAndHalf, i32OverAndOne, threeMilliardAndHalf, halfGreatest, greatest, infinity, nan, nearest, floor, ceiling, strict}
 
 -- the policy's number, the unit d and the two ends by their bits, and the answer
 pub record Row : Type 0 where
@@ -13,71 +12,6 @@ pub record Row : Type 0 where
   pub lower : ℕ
   pub upper : ℕ
   pub says : Values
-
--- ---- the doubles, by their bits
-
--- the double k steps further up, further down; the same with a minus sign
-abbrev up : ℕ → ℕ → ℕ
-up k b = bitsAt (orderedBits b + k)
-
-abbrev down : ℕ → ℕ → ℕ
-down k b = bitsAt (orderedBits b - k)
-
-abbrev minus : ℕ → ℕ
-minus b = b + 2 ^ 63
-
-abbrev zero : ℕ
-zero = 0
-
-abbrev least : ℕ
-least = 1
-
-abbrev half : ℕ
-half = 0x3fe0000000000000
-
-abbrev pub one : ℕ
-one = 0x3ff0000000000000
-
-abbrev pub two : ℕ
-two = 0x4000000000000000
-
-abbrev twoAndHalf : ℕ
-twoAndHalf = 0x4004000000000000
-
-abbrev three : ℕ
-three = 0x4008000000000000
-
--- 2147483647, 2147483647.5, 2147483648, 2147483648.5, 2147483649, 3000000000.5
-abbrev i32Max : ℕ
-i32Max = 0x41dfffffffc00000
-
-abbrev i32MaxAndHalf : ℕ
-i32MaxAndHalf = 0x41dfffffffe00000
-
-abbrev i32Over : ℕ
-i32Over = 0x41e0000000000000
-
-abbrev i32OverAndHalf : ℕ
-i32OverAndHalf = 0x41e0000000100000
-
-abbrev i32OverAndOne : ℕ
-i32OverAndOne = 0x41e0000000200000
-
-abbrev threeMilliardAndHalf : ℕ
-threeMilliardAndHalf = 0x41e65a0bc0100000
-
--- half of the greatest double, the greatest double, infinity, a NaN
-abbrev halfGreatest : ℕ
-halfGreatest = 0x7fdfffffffffffff
-
-abbrev greatest : ℕ
-greatest = 0x7fefffffffffffff
-
-abbrev infinity : ℕ
-infinity = 0x7ff0000000000000
-
-abbrev nan : ℕ
-nan = 0x7ff8000000000000
 
 -- ---- the answers
 
@@ -89,19 +23,6 @@ to a b = record { number = 0; least = a; greatest = b }
 
 abbrev row : ℕ → ℕ → ℕ → ℕ → Values → Row
 row p d lo hi v = record { policy = p; unit = d; lower = lo; upper = hi; says = v }
-
--- policies
-abbrev nearest : ℕ
-nearest = 0
-
-abbrev floor : ℕ
-floor = 1
-
-abbrev ceiling : ℕ
-ceiling = 2
-
-abbrev strict : ℕ
-strict = 3
 
 -- ---- the limits
 

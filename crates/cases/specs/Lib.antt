@@ -6,4 +6,6 @@ pub mod Limits
 pub mod Neighbours
 pub mod Read
 pub mod Edges
+pub mod Doubles
 pub mod Bounds
+pub mod Survey

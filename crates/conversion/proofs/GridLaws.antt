@@ -103,7 +103,7 @@ module _ (policy : GdsRoundingPolicy) (x : Float) where
   grid-off e h = sym (ap (λ (m : Made ℤ). m >>= ranged) (grid-of ErrorIfOffGrid e ∙ need-off (onGrid x) R.OffGrid (pure (roundAway x)) h) ∙ refused-then R.OffGrid ranged)
 
 -- what is on the grid is rounded to the nearest by every policy
-on-rounded : (policy : GdsRoundingPolicy) (x : Float) → onGrid x ≡ true → rounded policy x ≡ pure (roundAway x)
+pub on-rounded : (policy : GdsRoundingPolicy) (x : Float) → onGrid x ≡ true → rounded policy x ≡ pure (roundAway x)
 unfolding rounded
 on-rounded Nearest x h = refl
 on-rounded Floor x h = ap (λ (t : Bool). pure (cond t (roundAway x) (floorOf x))) h

@@ -1,3 +1,4 @@
+-- A physical value whose quotient by d is a whole number is converted to it under every policy, with nothing to report (`convert-whole`).
 -- In the database unit 1, integers in the unit 1 are converted to themselves, with nothing to report: outside arrays, where they pass, and in an array that is not turned (`array-exact`), where they
 -- are converted by doubles that are whole numbers. Assumes nothing.
 use mathlib.Core.Path.{_≡_, refl, sym, ap, ap₂, _∙_}
@@ -8,11 +9,11 @@ use native.Mathlib.Nat.{le-trans, le-of-eq, mul-one, mul-le-mul-right, mul-le-mu
 use native.Mathlib.Omega.{arith}
 use lib.Dec.{T, ltb→lt, lit≤}
 use lib.IntN.{ℤ, pos, negsuc, negℤ, natAbs, one, *ℤ-one, *ℤ-zero, +ℤ-idl, +ℤ-idr, +ℤ-comm, _+ℤ_, _*ℤ_}
-use lib.Ieee.{Float, eq}
+use lib.Ieee.{Float, binary64, eq, div}
 use lib.Ieee.Bits.{is-true as on}
 use lib.Ieee.Scale.{finite}
 use Rattle.binary64.specs.Value.{zero64, one64}
-use Rattle.binary64.proofs.Exact.{Is, is-finite, is-same, one-is, none-is, int-is, neg-is, mul-is, div-is, fma-is, is-round, is-beside}
+use Rattle.binary64.proofs.Exact.{Is, is-finite, is-same, one-is, none-is, int-is, neg-is, mul-is, div-is, fma-is, is-round, nearest-is, is-beside}
 use Rattle.refusal.specs.declared.Refusal.the-variants as R
 use Rattle.units.specs.Physical.{physical, passed}
 use Rattle.units.specs.Point.{Point, endpoint}
@@ -20,11 +21,12 @@ use Rattle.units.specs.Integer.{integer, integerPoint}
 use Rattle.conversion.specs.declared.GdsRoundingPolicy.{GdsRoundingPolicy}
 use Rattle.conversion.specs.declared.GdsRoundingPolicy.the-variants.{Nearest}
 use Rattle.conversion.specs.Made.{made, pure, _>>_}
-use Rattle.conversion.specs.Convert.{Spot, rounded, inRange, ranged, difference, abs, deviations, convertPhysical, physicalValue, convertBy, convertUnit, arrayEndpoint}
+use Rattle.conversion.specs.Convert.{Spot, onGrid, inRange, ranged, difference, abs, deviations, convertPhysical, physicalValue, convertBy, convertUnit, arrayEndpoint}
 use Rattle.conversion.specs.Points.{writePoint, writeLength}
 use Rattle.conversion.specs.Array.{physicalPoint, physicalSpacing, physicalAt, turned, endpointPhysical, writePhysical, writeEndpoint, convertArray}
 use Rattle.conversion.proofs.MadeLaws.{need-on, then-pure}
 use Rattle.conversion.proofs.ConvertLaws.{accept}
+use Rattle.conversion.proofs.GridLaws.{on-rounded}
 use Rattle.conversion.proofs.DeviationLaws.{counts-beside}
 
 -- ---- outside arrays: they pass
@@ -55,21 +57,28 @@ range-abs (negsuc n) h = ltb→lt n (2 ^ 31) h
 small : (z : ℤ) → T (inRange z) → natAbs z ≤ 2 ^ 53
 small z h = le-trans (range-abs z h) (lit≤ tt)
 
+module _ (d p : Float) (z : ℤ) (s : Is (div binary64 p d) z) (r : T (inRange z)) (at : Spot) where
+  unreported : pure z ≡ made z (deviations d at p z)
+  unreported = counts-beside d p z (abs (difference d p z)) refl (is-beside s (int-is z (small z r))) at z refl
+
+  pub convert-whole : (policy : GdsRoundingPolicy) → T (finite p) → convertPhysical policy d at p ≡ pure z
+  unfolding convertPhysical onGrid
+  convert-whole policy f =
+      let e = on-rounded policy (div binary64 p d) (is-beside s (nearest-is s (small z r))) ∙ ap (λ (q : ℤ). pure q) (is-round s) in
+      then-pure _ (accept policy d p z f (is-finite s) e r) (sym unreported)
+
 module _ (at : Spot) (p : Float) (z : ℤ) (h : Is p z) (r : T (inRange z)) where
-  unreported : pure z ≡ made z (deviations one64 at p z)
-  unreported = counts-beside one64 p z (abs (difference one64 p z)) refl (is-beside (div-is h (small z r)) (int-is z (small z r))) at z refl
+  unreported-one : pure z ≡ made z (deviations one64 at p z)
+  unreported-one = unreported one64 p z (div-is h (small z r)) r at
 
   convert-one : convertPhysical Nearest one64 at p ≡ pure z
-  unfolding convertPhysical rounded
-  convert-one =
-      let s = div-is h (small z r) in
-      then-pure _ (accept Nearest one64 p z (is-finite h) (is-finite s) (ap (λ (q : ℤ). pure q) (is-round s)) r) (sym unreported)
+  convert-one = convert-whole one64 p z (div-is h (small z r)) r at Nearest (is-finite h)
 
 endpoint-one : (at : Spot) (o a : ℤ) (n : ℕ) (p : Float) → Is p (endpoint o a n) → T (inRange (endpoint o a n)) → arrayEndpoint one64 at o a n p ≡ pure (endpoint o a n)
 unfolding arrayEndpoint ranged
 endpoint-one at o a n p h r =
     need-on (finite p) R.NotFinite _ (on (finite p) (is-finite h))
-    ∙ then-pure _ (need-on (inRange (endpoint o a n)) R.OutOfRange (pure (endpoint o a n)) (on (inRange (endpoint o a n)) r)) (sym (unreported at p (endpoint o a n) h r))
+    ∙ then-pure _ (need-on (inRange (endpoint o a n)) R.OutOfRange (pure (endpoint o a n)) (on (inRange (endpoint o a n)) r)) (sym (unreported-one at p (endpoint o a n) h r))
 
 times-one : (z : ℤ) → z *ℤ pos 1 ≡ z
 unfolding one

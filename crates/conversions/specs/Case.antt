@@ -1,4 +1,4 @@
--- A case is 54 bytes: a conversion, or two bounds, and the answer that another implementation gave. Its layout stands in tools/conversions.py. Assumes nothing.
+-- A case is 54 bytes: a conversion, two bounds, or a pitch survey, and the answer that another implementation gave. Its layout stands in tools/conversions.py. Assumes nothing.
 use mathlib.Core.List.{List, [], _∷_}
 use mathlib.Core.Bool.{Bool, not, _&&_, cond}
 use Prim.Native.Nat.{ℕ, zero, suc, _+_, _*_, _^_}
@@ -18,6 +18,8 @@ use Rattle.conversion.specs.Convert.{Spot, convertUnit, arrayEndpoint}
 use Rattle.bounds.specs.Range.{convertBounds}
 use Rattle.bounds.specs.Answer as Bounds
 use Rattle.bounds.specs.Answer.{Values, valuesOf}
+use Rattle.survey.specs.Places.{surveyPitch}
+use Rattle.survey.specs.Answer as Survey
 use Rattle.conversions.specs.declared.Answer.{Answer}
 
 -- ---- the conversion
@@ -62,9 +64,20 @@ rangeAnswer v = record { first = v .number * 2 ^ 40 + ofZ w32 (v .least); second
 unfoldable pub rangeAt : List ℕ → ℕ → Values
 rangeAt s at = valuesOf (Bounds.answerOf (convertBounds (numberAt 1 s (at + 1)) (doubleAt s (at + 2)) (doubleAt s (at + 10)) (doubleAt s (at + 18))))
 
+-- of a pitch survey: the refusal's number, or the clean places; then those with an entry due, and the refused ones
+abbrev pub surveyAnswer : Survey.Values → Answer
+surveyAnswer v = record { first = v .number * 2 ^ 40 + v .clean; second = v .due; third = v .refused }
+
+-- the counts of the case whose bytes begin at `at`
+unfoldable pub surveyAt : List ℕ → ℕ → Survey.Values
+surveyAt s at = Survey.valuesOf (Survey.answerOf (surveyPitch (numberAt 1 s (at + 1)) (doubleAt s (at + 2)) (doubleAt s (at + 10)) (numberAt 4 s (at + 26))))
+
 -- a conversion's answer does not say where the deviation is
 unfoldable pub answerAt : List ℕ → ℕ → Answer
-answerAt s at = cond (eqb (numberAt 1 s at) 3) (rangeAnswer (rangeAt s at)) (answerOf (convertedAt s at (record { field = 0; axis = 0; place = 0 })))
+answerAt s at =
+    cond (eqb (numberAt 1 s at) 3) (rangeAnswer (rangeAt s at))
+    (cond (eqb (numberAt 1 s at) 4) (surveyAnswer (surveyAt s at))
+    (answerOf (convertedAt s at (record { field = 0; axis = 0; place = 0 }))))
 
 -- whether three words stand at a place
 unfoldable pub wordsAt : ℕ → ℕ → ℕ → List ℕ → ℕ → Bool

@@ -1,14 +1,15 @@
-// Runs conversions to the database grid, and the ranges of two bounds, on known answers that another implementation gave: prints the number of each case that differs, then how many cases there are and how many differ.
+// Runs conversions to the database grid, the ranges of two bounds, and pitch surveys on known answers that another implementation gave: prints the number of each case that differs, then how many cases there are and how many differ.
 ghost use mathlib.Core.Path.{_≡_};
 ghost use Prim.Native.Nat.{_+_, _*_, _/_, _≤_};
 ghost use lib.ListN.{length};
 ghost use Rattle.conversion.specs.Convert.{Spot};
 ghost use Rattle.conversion.specs.Answer.{outcome};
 ghost use Rattle.conversions.specs.Case as Case;
-ghost use Rattle.conversions.specs.Case.{doubleAt, signedAt, policyOf, unitAt, convertedAt, answerOf, rangeAnswer, rangeAt, answerAt, differing};
+ghost use Rattle.conversions.specs.Case.{doubleAt, signedAt, policyOf, unitAt, convertedAt, answerOf, rangeAnswer, rangeAt, surveyAnswer, surveyAt, answerAt, differing};
 use bounds::RangeAnswer;
 use conversion::Conversion;
 use conversion::GdsRoundingPolicy;
+use survey::SurveyAnswer;
 use units::Unit;
 
 // The bytes of a case, and the places in it (tools/conversions.py): what it is of stands first.
@@ -24,20 +25,26 @@ const LOWER: usize = 10;
 
 const UPPER: usize = 18;
 
+const PITCH: usize = 10;
+
 const ORIGIN: usize = 18;
 
 const SPACING: usize = 22;
 
 const COUNT: usize = 26;
 
+const PLACES: usize = 26;
+
 const ANSWER: usize = 30;
 
-// What a case is of: an integer with its unit, a double with its unit (1), an array's endpoint, or two bounds.
+// What a case is of: an integer with its unit, a double with its unit (1), an array's endpoint, two bounds, or a pitch survey.
 const INTEGER: u8 = 0;
 
 const ENDPOINT: u8 = 2;
 
 const BOUNDS: u8 = 3;
+
+const SURVEY: u8 = 4;
 
 // The policies' numbers; strict is 3.
 const NEAREST: u8 = 0;
@@ -186,16 +193,42 @@ fn range_answer(cases: &[u8], at: usize) -> Answer
     }
 }
 
+// The answer of a pitch survey.
+fn survey_answer(cases: &[u8], at: usize) -> Answer
+    requires { ⌜ at + 54 ≤ length (now cases) ⌝ }
+    ensures { λ r. ⌜ r ≡ surveyAnswer (surveyAt (now (cases .entry)) at) ⌝ }
+{
+    let policy = big_endian::u8_at(cases, at + POLICY);
+    let d = double_at(cases, at + DATABASE_UNIT);
+    let pitch = double_at(cases, at + PITCH);
+    let n = big_endian::u32_at(cases, at + PLACES);
+    match survey::survey_pitch(policy, d, pitch, n) {
+        SurveyAnswer::Refused { refusal } => Answer {
+            first: (refusal.number() as u64) * REFUSAL,
+            second: 0,
+            third: 0,
+        },
+        SurveyAnswer::Surveyed { counts } => Answer {
+            first: counts.clean as u64,
+            second: counts.due as u64,
+            third: counts.refused as u64,
+        },
+    }
+}
+
 // The answer of the case at a place.
 fn answer_at(cases: &[u8], at: usize) -> Answer
     requires { ⌜ at + 54 ≤ length (now cases) ⌝ }
     ensures { λ r. ⌜ r ≡ answerAt (now (cases .entry)) at ⌝ }
 {
-    if big_endian::u8_at(cases, at) == BOUNDS {
-        range_answer(cases, at)
-    } else {
-        answer_of(converted(cases, at))
+    let what = big_endian::u8_at(cases, at);
+    if what == BOUNDS {
+        return range_answer(cases, at);
     }
+    if what == SURVEY {
+        return survey_answer(cases, at);
+    }
+    answer_of(converted(cases, at))
 }
 
 // Whether the three words stand at a place.
@@ -244,8 +277,15 @@ fn differ(cases: &[u8]) -> usize
     found
 }
 
+// 131,072 zeros, for all cases at once.
+fn room() -> [u8; 131072]
+    ensures { λ r. ⌜ 131072 ≡ length r ⌝ }
+{
+    [0; 131072]
+}
+
 fn main() {
-    let mut input = io::large_buffer();
+    let mut input = room();
     let n = io::read_full(0, &mut input);
     let found = differ(&input[..n]);
     io::print_decimal(1, (n / SIZE) as u64);

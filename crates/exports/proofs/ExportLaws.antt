@@ -11,8 +11,13 @@ use Rattle.refusal.proofs.NumberLaws.{number-above}
 use Rattle.conversion.proofs.DeviationLaws.{zero-is}
 use Rattle.bounds.specs.declared.RangeAnswer.{RangeAnswer}
 use Rattle.bounds.specs.declared.RangeAnswer.the-variants as B
-use Rattle.bounds.specs.Answer.{valuesOf}
+use Rattle.bounds.specs.Answer as Bounds
 use Rattle.bounds.specs.Bounds.{ConvertsBounds}
+use Rattle.survey.specs.declared.Counts.{Counts}
+use Rattle.survey.specs.declared.SurveyAnswer.{SurveyAnswer}
+use Rattle.survey.specs.declared.SurveyAnswer.the-variants as S
+use Rattle.survey.specs.Answer as Survey
+use Rattle.survey.specs.Survey.{SurveysPitch}
 use Rattle.cell.specs.declared.Answer.{Answer}
 use Rattle.cell.specs.declared.Answer.the-variants as A
 use Rattle.cell.specs.Cell.{measureCell}
@@ -51,9 +56,18 @@ writes-for {a = a} w h =
 
 -- ---- lengths within bounds: each case of the answer
 
-module _ {policy : ℕ} {d lo hi : Float} {v : RangeAnswer} (h : ConvertsBounds policy d lo hi (valuesOf v)) where
+module _ {policy : ℕ} {d lo hi : Float} {v : RangeAnswer} (h : ConvertsBounds policy d lo hi (Bounds.valuesOf v)) where
   pub bounds-refused : {x : Refusal} {r : ℕ} → v ≡ B.Refused x → r ≡ number x → ConvertsBounds policy d lo hi (record { number = r; least = pos 0; greatest = pos 0 })
-  bounds-refused e p = rw p (subst (λ (a : RangeAnswer). ConvertsBounds policy d lo hi (valuesOf a)) e h)
+  bounds-refused e p = rw p (subst (λ (a : RangeAnswer). ConvertsBounds policy d lo hi (Bounds.valuesOf a)) e h)
 
   pub bounds-range : {a b : ℤ} → v ≡ B.Range a b → ConvertsBounds policy d lo hi (record { number = 0; least = a; greatest = b })
-  bounds-range e = subst (λ (a : RangeAnswer). ConvertsBounds policy d lo hi (valuesOf a)) e h
+  bounds-range e = subst (λ (a : RangeAnswer). ConvertsBounds policy d lo hi (Bounds.valuesOf a)) e h
+
+-- ---- the pitch survey: each case of the answer
+
+module _ {policy n : ℕ} {d pitch : Float} {v : SurveyAnswer} (h : SurveysPitch policy d pitch n (Survey.valuesOf v)) where
+  pub survey-refused : {x : Refusal} {r : ℕ} → v ≡ S.Refused x → r ≡ number x → SurveysPitch policy d pitch n (record { number = r; clean = 0; due = 0; refused = 0 })
+  survey-refused e p = rw p (subst (λ (a : SurveyAnswer). SurveysPitch policy d pitch n (Survey.valuesOf a)) e h)
+
+  pub survey-counts : {k : Counts} → v ≡ S.Surveyed k → SurveysPitch policy d pitch n (record { number = 0; clean = k .clean; due = k .due; refused = k .refused })
+  survey-counts e = subst (λ (a : SurveyAnswer). SurveysPitch policy d pitch n (Survey.valuesOf a)) e h

@@ -1,11 +1,13 @@
-// The cell writer and lengths within bounds, for programs in C, Rust and other languages: exports/ has the header and examples.
+// The cell writer, lengths within bounds and the pitch survey, for programs in C, Rust and other languages: exports/ has the header and examples.
 // The slices stand first and the numbers last, so that a slice's address and length are two arguments of C side by side, in registers or on the stack.
 // Every place that is lent for an answer is written, also in a refusal.
 ghost use Rattle.exports.specs.Numbers.{InNumbers};
 ghost use Rattle.exports.specs.Exports.{MeasuresFor, WritesFor};
 ghost use Rattle.bounds.specs.Bounds.{ConvertsBounds};
+ghost use Rattle.survey.specs.Survey.{SurveysPitch};
 use bounds::RangeAnswer;
 use cell::Answer;
+use survey::SurveyAnswer;
 
 // Puts each of the answer's numbers in its place; returns the refusal's number, or 0.
 fn answer_in(
@@ -99,6 +101,35 @@ pub extern "C" fn ravenvanity_convert_bounds(
         } => {
             *least = a;
             *greatest = b;
+            0
+        }
+    }
+}
+
+// How many of the places 0 to n - 1, i times the pitch each, are clean, have an entry due, and are refused: returns 0 with the three counts; or the refusal's number, and all three are 0.
+#[no_mangle]
+pub extern "C" fn ravenvanity_survey_pitch(
+    clean: &mut u32,
+    due: &mut u32,
+    refused: &mut u32,
+    policy: u8,
+    d: f64,
+    pitch: f64,
+    n: u32,
+) -> u8
+    ensures { λ r. ⌜ SurveysPitch policy d pitch n (record { number = r; clean = now (clean .exit); due = now (due .exit); refused = now (refused .exit) }) ⌝ }
+{
+    match survey::survey_pitch(policy, d, pitch, n) {
+        SurveyAnswer::Refused { refusal: reason } => {
+            *clean = 0;
+            *due = 0;
+            *refused = 0;
+            reason.number()
+        }
+        SurveyAnswer::Surveyed { counts } => {
+            *clean = counts.clean;
+            *due = counts.due;
+            *refused = counts.refused;
             0
         }
     }

@@ -33,3 +33,4 @@ number-above R.NotStructure = omega arith
 number-above R.InexactReal = omega arith
 number-above R.ArrayCorners = omega arith
 number-above R.Bounds = omega arith
+number-above R.SurveyCount = omega arith

@@ -1,4 +1,4 @@
-// Why a cell is not written (document 01, "Who can cause which refusal"); why a structure is not read (document 02, request 8: from `NotStructure` on); why two ends are no bounds (request 11: `Bounds`).
+// Why a cell is not written (document 01, "Who can cause which refusal"); why a structure is not read (document 02, request 8: from `NotStructure` on); why two ends are no bounds (request 11: `Bounds`); why a row is not surveyed (request 12: `SurveyCount`).
 ghost use mathlib.Core.Path.{_≡_};
 ghost use Rattle.refusal.specs.Number as Number;
 
@@ -29,6 +29,7 @@ pub enum Refusal {
     InexactReal,
     ArrayCorners,
     Bounds,
+    SurveyCount,
 }
 
 impl Refusal {
@@ -63,6 +64,7 @@ impl Refusal {
             Refusal::InexactReal => 29,
             Refusal::ArrayCorners => 30,
             Refusal::Bounds => 32,
+            Refusal::SurveyCount => 33,
         }
     }
 }
