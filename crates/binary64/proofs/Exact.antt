@@ -229,7 +229,7 @@ fma-is {x} {y} {z} {a} {b} {o} h k l w = go x y z (h .value) (k .value) (l .valu
 
 -- ---- rounding, and one step
 
-widen : (x : Float) (s : Bool) (n : ℕ) → HasValue x s n 1 → HasValue x s (n * unit) unit
+pub widen : (x : Float) (s : Bool) (n : ℕ) → HasValue x s n 1 → HasValue x s (n * unit) unit
 widen nan s n h = h
 widen (inf t) s n h = h
 widen (fin t m e) s n h = (h .0, ap (λ (z : ℕ). z * unit) (sym (mul-one (m * up e)) ∙ h .1) ∙ mul-right-comm n (down e) unit)

@@ -1,4 +1,4 @@
--- Examples at single doubles; whole numbers and tests; the value of a double, its parts and its pattern; rounding; steps; `mul_add`; order; doubles that are whole numbers.
+-- Examples at single doubles; whole numbers and tests; the value of a double, its parts and its pattern; rounding; steps; `mul_add`; order; doubles that are whole numbers; a whole number times a double, and back.
 pub mod Examples
 pub mod Tests
 pub mod Powers
@@ -20,3 +20,4 @@ pub mod Snapping
 pub mod Compare
 pub mod Same
 pub mod Exact
+pub mod TimesBack

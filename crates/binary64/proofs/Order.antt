@@ -106,7 +106,7 @@ grid-order f a b c d B D A C h = elim (eq-zero-or-pos (grid f a b)) [
 ]
 
 -- what rounds to at most a finite value does not overflow
-under-of-le : (f : Format) (a c : ℕ) (y : Float) → T (finite y) → T (le (round f false a c) y) → grid f a c < overflow f
+pub under-of-le : (f : Format) (a c : ℕ) (y : Float) → T (finite y) → T (le (round f false a c) y) → grid f a c < overflow f
 unfolding units le lt eq
 under-of-le f a c y g h =
     go (ltb (grid f a c) (overflow f)) (ltb→lt (grid f a c) (overflow f)) y g
@@ -120,7 +120,7 @@ under-of-le f a c y g h =
     go false k (fin s m e) g h = absurd h
 
 -- and is finite with either sign
-under-finite : (f : Format) (s : Bool) (a c : ℕ) → grid f a c < overflow f → T (finite (round f s a c))
+pub under-finite : (f : Format) (s : Bool) (a c : ℕ) → grid f a c < overflow f → T (finite (round f s a c))
 under-finite f s a c h =
     let q = kept (prec f) (a * 2 ^ low f) c in
     let k = drop (prec f) (a * 2 ^ low f) c in

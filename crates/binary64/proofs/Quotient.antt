@@ -2,10 +2,10 @@
 -- wherever S is below 2 ^ (53 + j). So s is within 2 ^ -22 of the true quotient while it is below 2 ^ 32 in size, and it has p's sign. Assumes nothing.
 use mathlib.Core.Path.{_≡_, refl, sym, ap, _∙_, subst}
 use mathlib.Core.Bool.{Bool, true, false, not, cond}
-use Prim.Native.Nat.{ℕ, zero, _+_, _*_, _^_, _<_}
+use Prim.Native.Nat.{ℕ, _+_, _*_, _^_, _<_}
 use native.Mathlib.Nat.{lt-irrefl, mul-comm, mul-assoc, mul-left-comm, mul-pos}
-use lib.Dec.{T, ltb, eqb, ltb→lt, not-T, eqb→eq}
-use lib.Ieee.{Float, nan, inf, fin, Format, binary64, low, up, down, unlike, round, div, fits}
+use lib.Dec.{T, eqb, ltb→lt, not-T, eqb→eq}
+use lib.Ieee.{Float, nan, inf, fin, Format, binary64, up, down, unlike, round, div, fits}
 use lib.Ieee.Fits.{up-pos}
 use lib.Ieee.Bits.{cond-no}
 use lib.Ieee.Exact.{HasValue}
@@ -40,6 +40,13 @@ num-pos nan p = absurd p
 num-pos (inf s) p = absurd p
 num-pos (fin true m e) p = absurd p
 num-pos (fin false m e) p = mul-pos (ltb→lt 0 m p) (up-pos e)
+
+pub positive-sign : (x : Float) → T (positive x) → negative x ≡ false
+unfolding negative
+positive-sign nan p = absurd p
+positive-sign (inf s) p = absurd p
+positive-sign (fin true m e) p = absurd p
+positive-sign (fin false m e) p = refl
 
 module _ (p d : Float) (P : T (fits binary64 p)) (D : T (fits binary64 d)) (a : T (finite p)) (b : T (positive d)) (c : T (finite (div binary64 p d))) where
   abbrev N : ℕ

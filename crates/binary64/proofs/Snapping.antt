@@ -67,7 +67,7 @@ unsigned-order x y X Y f g e small h = elim (ℕ-discrete (unsigned x / 2 ^ 52) 
 ]
 
 -- whatever follows from a finite double's parts
-by-parts : {A : Type 0} (x : Float) → T (fits binary64 x) → T (finite x) → ((s : Bool) (m j : ℕ) → PartsOf x s m j → A) → A
+pub by-parts : {A : Type 0} (x : Float) → T (fits binary64 x) → T (finite x) → ((s : Bool) (m j : ℕ) → PartsOf x s m j → A) → A
 by-parts x X f k = elim (ℕ-discrete (unsigned x / 2 ^ 52) 0) [ yes i ↦ k _ _ _ (parts-zero x X f i) | no i ↦ k _ _ _ (parts-suc x X f i) ]
 
 pattern-sign : (x : Float) → T (fits binary64 x) → T (finite x) → negative x ≡ leb (2 ^ 63) (toBits binary64 x)
@@ -136,7 +136,7 @@ module _ (x y : Float) (X : T (fits binary64 x)) (Y : T (fits binary64 y)) (f : 
 -- ---- `nearestDouble x` is a whole number: rounding it changes nothing
 
 -- n * u and a rest below u, divided by u
-div-rest : (n u r a : ℕ) → r < u → a ≡ n * u + r → a / u ≡ n
+pub div-rest : (n u r a : ℕ) → r < u → a ≡ n * u + r → a / u ≡ n
 div-rest n u r a h e = ap (λ (z : ℕ). z / u) (e ∙ add-comm (n * u) r) ∙ add-mul-div-right r n (lt-of-le-of-lt zero-le h) ∙ ap (λ (z : ℕ). z + n) (div-eq-of-lt h) ∙ zero-add n
 
 pub half-up-whole : (n : ℕ) → halfUp (n * unit) ≡ n

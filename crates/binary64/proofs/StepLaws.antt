@@ -29,7 +29,7 @@ sizeFrom zero t = t * 2 ^ 0
 sizeFrom (suc f) t = (t + 2 ^ 52) * 2 ^ f
 
 -- how far apart neighbours are
-gap : ℕ → ℕ
+pub gap : ℕ → ℕ
 gap zero = 2 ^ 0
 gap (suc f) = 2 ^ f
 
@@ -52,7 +52,7 @@ from-carry (suc f) = ap (λ (z : ℕ). (0 + 2 ^ 52) * z) (pow-succ' 2 f) ∙ go 
     go p = omega arith
 
 -- below 2 ^ (53 + j) units neighbours are at most 2 ^ j apart
-gap-le : (f t j : ℕ) → sizeFrom f t < 2 ^ (53 + j) → gap f ≤ 2 ^ j
+pub gap-le : (f t j : ℕ) → sizeFrom f t < 2 ^ (53 + j) → gap f ≤ 2 ^ j
 unfolding sizeFrom gap
 gap-le zero t j h = pow-mono {i = 0} {j = j} (omega arith)
 gap-le (suc f) t j h =
@@ -64,6 +64,15 @@ gap-le (suc f) t j h =
     fewer : 52 + f < 53 + j → f ≤ j
     fewer l = omega arith
 
+-- a size and one gap more are at most 2 ^ 53 gaps
+pub size-gaps : (f t : ℕ) → t < 2 ^ 52 → sizeFrom f t + gap f ≤ 2 ^ 53 * gap f
+unfolding sizeFrom gap
+size-gaps zero t h = omega arith
+size-gaps (suc f) t h = le-trans (le-of-eq (ap (λ (z : ℕ). (t + 2 ^ 52) * 2 ^ f + z) (sym (one-mul (2 ^ f))) ∙ sym (add-mul (t + 2 ^ 52) 1 (2 ^ f)))) (mul-le-mul-right (2 ^ f) (most t h))
+  where
+    most : (t : ℕ) → t < 2 ^ 52 → t + 2 ^ 52 + 1 ≤ 2 ^ 53
+    most t h = omega arith
+
 -- ---- by a pattern: its exponent's field and its digits
 
 abbrev pub fieldOf : ℕ → ℕ
@@ -72,8 +81,13 @@ fieldOf b = b % 2 ^ 63 / 2 ^ 52
 abbrev pub digitsOf : ℕ → ℕ
 digitsOf b = b % 2 ^ 52
 
+-- the pattern 0 is of zero
+pub no-size : (b : ℕ) → b ≡ 0 → sizeFrom (fieldOf b) (digitsOf b) ≡ 0
+unfolding sizeFrom
+no-size b e = ap (λ (c : ℕ). sizeFrom (fieldOf c) (digitsOf c)) e
+
 -- either no leading digit, or one
-by-field : {X : Type 0} (k : ℕ) → (k ≡ 0 → X) → ((k ≡ 0 → ⊥) → X) → X
+pub by-field : {X : Type 0} (k : ℕ) → (k ≡ 0 → X) → ((k ≡ 0 → ⊥) → X) → X
 by-field k f g = elim (eq-zero-or-pos k) [
   | inl e ↦ f e
   | inr h ↦ g (λ e. lt-irrefl 0 (subst (λ (z : ℕ). 0 < z) e h))
@@ -104,7 +118,7 @@ module _ (x : Float) (F : T (fits binary64 x)) (f : T (finite x)) where
   sign-bits = by-field (fieldOf (toBits binary64 x)) (λ e. parts-zero x F f e .sign) (λ n. parts-suc x F f n .sign)
 
 -- the next pattern: one digit more, or a carry
-next-bits : (b : ℕ) → fieldOf b < 2047 → sizeFrom (fieldOf (b + 1)) (digitsOf (b + 1)) ≡ sizeFrom (fieldOf b) (digitsOf b) + gap (fieldOf b)
+pub next-bits : (b : ℕ) → fieldOf b < 2047 → sizeFrom (fieldOf (b + 1)) (digitsOf (b + 1)) ≡ sizeFrom (fieldOf b) (digitsOf b) + gap (fieldOf b)
 next-bits b l = elim (decLe (digitsOf b + 2) (2 ^ 52)) [
   | yes h ↦ ap₂ sizeFrom (same b h) (more b h) ∙ from-next (fieldOf b) (digitsOf b)
   | no h ↦ ap₂ sizeFrom (up b l (full b h)) (none b (full b h)) ∙ from-carry (fieldOf b) ∙ ap (λ (t : ℕ). sizeFrom (fieldOf b) t + gap (fieldOf b)) (sym (full b h))

@@ -20,7 +20,7 @@ use Rattle.conversion.specs.Policy.{callerPolicy}
 use Rattle.conversion.specs.Convert.{databaseValue}
 use Rattle.conversion.specs.Answer.{callerOf, valueOf}
 use Rattle.conversion.proofs.MadeLaws.{Yields, no-yield, made-yields, steps, need-on, need-off, refused-on, pure-on}
-use Rattle.conversion.proofs.PolicyLaws.{Caller, unnamed, noUnit, passes, caller}
+use Rattle.conversion.proofs.PolicyLaws.{Caller, unnamed, noUnit, passes, caller, caller-refused, caller-policy}
 use Rattle.bounds.specs.declared.RangeAnswer.{RangeAnswer}
 use Rattle.bounds.specs.declared.RangeAnswer.the-variants as A
 use Rattle.bounds.specs.Range.{Range, admitted, rangeOf, convertBounds}
@@ -66,11 +66,11 @@ module _ (policy : GdsRoundingPolicy) (d lo hi : Float) where
 module _ (n : ℕ) (d lo hi : Float) where
   pub caller-stop : (v : CallerPolicy) (r : Refusal) → v ≡ C.Refused r → callerOf v ≡ callerPolicy n d → A.Refused r ≡ answerOf (convertBounds n d lo hi)
   unfolding convertBounds
-  caller-stop v r e h = ap answerOf (refused-on (callerPolicy n d) (λ p. rangeOf p d lo hi) r (sym (ap callerOf e) ∙ h))
+  caller-stop v r e h = ap answerOf (caller-refused n d (λ p. rangeOf p d lo hi) v h r e)
 
   pub caller-on : (v : CallerPolicy) (p : GdsRoundingPolicy) → v ≡ C.With p → callerOf v ≡ callerPolicy n d → answerOf (rangeOf p d lo hi) ≡ answerOf (convertBounds n d lo hi)
   unfolding convertBounds
-  caller-on v p e h = ap answerOf (pure-on (callerPolicy n d) (λ p. rangeOf p d lo hi) p (sym (ap callerOf e) ∙ h))
+  caller-on v p e h = ap answerOf (caller-policy n d (λ p. rangeOf p d lo hi) v h p e)
 
   -- ---- the promise
 

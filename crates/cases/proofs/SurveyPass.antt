@@ -4,8 +4,8 @@ use mathlib.Core.Bool.{true}
 use mathlib.Core.List.{List, [], _∷_}
 use mathlib.Core.Option.{Option, none, some}
 use Prim.Native.Nat.{ℕ, _+_}
-use lib.Dec.{T, eqb}
-use lib.Ieee.{Float, binary64, ofBits}
+use lib.Dec.{T, eqb, lit<}
+use lib.Ieee.{Float, binary64, ofBits, fits}
 use lib.Ieee.Bits.{is-true as on}
 use lib.Ieee.Positive.{positive}
 use lib.Ieee.Scale.{finite}
@@ -17,13 +17,14 @@ use Rattle.conversion.specs.Policy.{policyOf, callerPolicy}
 use Rattle.conversion.proofs.MadeLaws.{need-on, then-pure}
 use Rattle.conversion.proofs.PolicyLaws.{caller-with}
 use Rattle.survey.specs.declared.Placed.{Placed}
-use Rattle.survey.specs.declared.Placed.the-variants.{Refused}
+use Rattle.survey.specs.declared.Placed.the-variants.{Clean, Refused}
 use Rattle.survey.specs.declared.Counts.{Counts}
 use Rattle.survey.specs.Places.{placedAt, countOf, isClean, isDue, isRefused, counted, maxPlaces, placesFit, surveyOf, surveyPitch}
 use Rattle.survey.specs.Answer.{answerOf, Values, valuesOf}
 use Rattle.survey.specs.Survey.{SurveysPitch}
+use Rattle.survey.proofs.CleanLaws.{multiple-clean}
 use Rattle.cases.specs.Doubles.{half, one, nearest}
-use Rattle.cases.specs.Survey.{Row, Place, limits, orders, surveys, places}
+use Rattle.cases.specs.Survey.{Row, Place, tenth, fourTenths, limits, orders, surveys, places}
 use Rattle.cases.proofs.Open.{opened}
 
 -- ---- the rows
@@ -122,3 +123,9 @@ module _ (m : ℕ) (policy : GdsRoundingPolicy) (d pitch : Float) (n : ℕ) (v :
 
   pub n-together : v .clean + v .due + v .refused ≡ n
   n-together = h .together accepted
+
+-- ---- a pitch that is exactly a whole number of units: 0.4 is four times 0.1
+
+pub four-tenths-clean : (policy : GdsRoundingPolicy) → placedAt policy (ofBits binary64 tenth) (ofBits binary64 fourTenths) 65535 ≡ Clean
+unfolding opened fits
+four-tenths-clean policy = multiple-clean policy (ofBits binary64 tenth) (ofBits binary64 fourTenths) 4 65535 tt tt tt tt refl (lit< tt) tt

@@ -24,15 +24,18 @@ pub record Place : Type 0 where
 
 -- ---- doubles by their bits
 
--- 1.5, 0.1, 0.3, 1.9, 2.7, 32768.5
+-- 1.5, 0.1, 0.3, 0.4, 1.9, 2.7, 32768.5
 abbrev oneAndHalf : ℕ
 oneAndHalf = 0x3ff8000000000000
 
-abbrev tenth : ℕ
+abbrev pub tenth : ℕ
 tenth = 0x3fb999999999999a
 
 abbrev threeTenths : ℕ
 threeTenths = 0x3fd3333333333333
+
+abbrev pub fourTenths : ℕ
+fourTenths = 0x3fd999999999999a
 
 abbrev nineteenTenths : ℕ
 nineteenTenths = 0x3ffe666666666666

@@ -1,28 +1,25 @@
 -- The bound of one conversion: an accepted database value is close to its physical value, by the policy's allowance. Assumes nothing.
-use mathlib.Core.Path.{_≡_, refl, sym, ap, ap₂, _∙_, subst}
-use mathlib.Core.Bool.{Bool, true, false, not, cond}
-use mathlib.Core.List.{List, []}
-use Prim.Native.Nat.{ℕ, zero, suc, _+_, _-_, _*_, _/_, _%_, _^_, _≤_, _<_}
-use native.Mathlib.Nat.{le-refl, le-trans, le-of-eq, le-of-lt, lt-of-lt-of-le, lt-of-le-of-lt, mul-one, mul-le-mul-right, mul-lt-mul-of-pos-right, mul-right-comm, mul-comm, mul-assoc}
-use native.Mathlib.Omega.{arith}
-use lib.Dec.{T, ltb, ltb→lt, lit<, lit≤}
+use mathlib.Core.Path.{_≡_, refl, sym, ap, _∙_, subst}
+use mathlib.Core.Bool.{Bool, true, false, cond}
+use Prim.Native.Nat.{ℕ, zero, suc, _+_, _-_, _*_, _/_, _^_, _≤_, _<_}
+use native.Mathlib.Nat.{le-of-lt, lt-of-le-of-lt, mul-le-mul-right, mul-lt-mul-of-pos-right}
+use lib.Dec.{T, ltb→lt, lit<, lit≤}
 use lib.Pow.{pow-pos}
-use lib.IntN.{ℤ, pos, negsuc, negℤ, natAbs, _-ℤ_, _*ℤ_}
-use lib.Ieee.{Float, nan, inf, fin, binary64, fits, div, round, up, down}
-use lib.Ieee.Fits.{round-fits, div-fits}
+use lib.IntN.{ℤ, pos, natAbs, _-ℤ_, _*ℤ_}
+use lib.Ieee.{Float, binary64, fits, div, round}
+use lib.Ieee.Fits.{round-fits}
 use lib.Ieee.Exact.{HasValue}
 use lib.Ieee.Scale.{finite}
 use lib.Ieee.Positive.{positive}
 use Rattle.binary64.proofs.Half.{Near, near-wider}
 use Rattle.binary64.specs.Value.{unit, sizeOf, negative, signed, scaled, roundAway, floorOf, ceilOf}
 use Rattle.binary64.proofs.ValueLaws.{size-of-value, sign-of-value, floor-is, ceil-is, round-is}
-use Rattle.binary64.proofs.Quotient.{quotient-sign, quotient-within}
-use Rattle.binary64.specs.Step.{oneStep, nearestDouble}
+use Rattle.binary64.proofs.Quotient.{positive-sign, quotient-sign, quotient-within}
+use Rattle.binary64.specs.Step.{nearestDouble}
 use Rattle.binary64.proofs.StepLaws.{near-step}
-use Rattle.conversion.specs.declared.GdsRoundingPolicy.{GdsRoundingPolicy}
-use Rattle.conversion.specs.declared.GdsRoundingPolicy.the-variants.{Nearest, Floor, Ceil, ErrorIfOffGrid}
+use Rattle.binary64.proofs.Exact.{widen}
 use Rattle.conversion.specs.Convert.{onGrid, inRange}
-use Rattle.conversion.specs.Close.{allowance, Close}
+use Rattle.conversion.specs.Close.{Close}
 use Rattle.conversion.proofs.SnapLaws.{whole-value, value-finite}
 use Rattle.conversion.proofs.Distance.{near-grid, near-abs, nearest-near, down-near, up-near, below-32}
 
@@ -44,19 +41,9 @@ range-size true (suc k) t = ltb→lt k (2 ^ 31) t
 -- ---- from s to p
 
 module _ (p d : Float) (P : T (fits binary64 p)) (D : T (fits binary64 d)) (a : T (finite p)) (b : T (positive d)) (c : T (finite (div binary64 p d))) where
-  positive-sign : negative d ≡ false
-  unfolding negative
-  positive-sign = go d b
-    where
-      go : (x : Float) → T (positive x) → negative x ≡ false
-      go nan t = absurd t
-      go (inf s) t = absurd t
-      go (fin true m e) t = absurd t
-      go (fin false m e) t = refl
-
   unit-is : scaled d ≡ pos (sizeOf d)
   unfolding scaled
-  unit-is = ap (λ (s : Bool). signed s (sizeOf d)) positive-sign
+  unit-is = ap (λ (s : Bool). signed s (sizeOf d)) (positive-sign d b)
 
   pub rounds-close : (n : ℕ) (q : ℤ) → n ≤ 2 ^ 22 → T (inRange q) → Rounds (div binary64 p d) n q → Close (n + 1) d (scaled p) q
   unfolding scaled
@@ -104,13 +91,8 @@ module _ (s : Float) (S : T (fits binary64 s)) (f : T (finite s)) (g : T (onGrid
   abbrev y : Float
   y = round binary64 (negative s) k 1
 
-  widen : (x : Float) (t : Bool) → HasValue x t k 1 → HasValue x t (k * unit) unit
-  widen nan t h = h
-  widen (inf u) t h = h
-  widen (fin u m e) t h = (h .0, ap (λ (z : ℕ). z * unit) (sym (mul-one (m * up e)) ∙ h .1) ∙ mul-right-comm k (down e) unit)
-
   y-size : sizeOf y ≡ k * unit
-  y-size = size-of-value y (negative s) (k * unit) (widen y (negative s) k-value)
+  y-size = size-of-value y (negative s) (k * unit) (widen y (negative s) k k-value)
 
   y-sign : negative y ≡ negative s
   y-sign = sign-of-value y (negative s) k 1 k-value

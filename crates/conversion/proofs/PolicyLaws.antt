@@ -1,5 +1,5 @@
 -- Policies by their numbers, and the caller's first two checks: which of the two refuses, or what has passed. Assumes nothing.
-use mathlib.Core.Path.{_≡_, refl, ap, _∙_}
+use mathlib.Core.Path.{_≡_, refl, sym, ap, _∙_}
 use mathlib.Core.Bool.{Bool, true, false}
 use mathlib.Core.Option.{Option, none, some}
 use Prim.Native.Nat.{ℕ, _≤_, _<_}
@@ -8,11 +8,15 @@ use borrow.Author.Tests.{ne-eqb, leb-true, leb-false}
 use lib.Dec.{T, leb}
 use lib.Ieee.{Float}
 use lib.Ieee.Positive.{positive}
+use Rattle.refusal.specs.declared.Refusal.{Refusal}
 use Rattle.refusal.specs.declared.Refusal.the-variants as R
 use Rattle.conversion.specs.declared.GdsRoundingPolicy.{GdsRoundingPolicy}
+use Rattle.conversion.specs.declared.CallerPolicy.{CallerPolicy}
+use Rattle.conversion.specs.declared.CallerPolicy.the-variants as C
 use Rattle.conversion.specs.Made.{Made, refused, pure, need, _>>=_, _>>_}
 use Rattle.conversion.specs.Policy.{policyOf, maxPolicy, named, callerPolicy}
-use Rattle.conversion.proofs.MadeLaws.{need-on, need-off, pure-then, refused-then}
+use Rattle.conversion.specs.Answer.{callerOf}
+use Rattle.conversion.proofs.MadeLaws.{need-on, need-off, pure-then, refused-then, refused-on, pure-on}
 
 -- no policy has a number above 3
 pub policy-none : (n : ℕ) → maxPolicy < n → policyOf n ≡ none
@@ -58,3 +62,11 @@ caller n d = go (policyOf n) refl (positive d) refl
     go none e t f = rw (caller-unnamed n d e) (unnamed e)
     go (some p) e true f = rw (caller-with n d p e f) (passes p e (rw f tt))
     go (some p) e false f = rw (caller-unit n d p e f) (noUnit p e (λ h. rw f at h))
+
+-- by the code's answer v: what comes of the checks and the step f that follows them
+module _ {A : Type 0} (n : ℕ) (d : Float) (f : GdsRoundingPolicy → Made A) (v : CallerPolicy) (h : callerOf v ≡ callerPolicy n d) where
+  pub caller-refused : (r : Refusal) → v ≡ C.Refused r → refused r ≡ callerPolicy n d >>= f
+  caller-refused r e = refused-on (callerPolicy n d) f r (sym (ap callerOf e) ∙ h)
+
+  pub caller-policy : (p : GdsRoundingPolicy) → v ≡ C.With p → f p ≡ callerPolicy n d >>= f
+  caller-policy p e = pure-on (callerPolicy n d) f p (sym (ap callerOf e) ∙ h)

@@ -1,4 +1,4 @@
--- A physical value whose quotient by d is a whole number is converted to it under every policy, with nothing to report (`convert-whole`).
+-- A physical value whose quotient by d lies within one step of a whole number, and is nearest to it, is converted to it under every policy, with nothing to report (`convert-beside`); so is one whose quotient is that number (`convert-whole`).
 -- In the database unit 1, integers in the unit 1 are converted to themselves, with nothing to report: outside arrays, where they pass, and in an array that is not turned (`array-exact`), where they
 -- are converted by doubles that are whole numbers. Assumes nothing.
 use mathlib.Core.Path.{_≡_, refl, sym, ap, ap₂, _∙_}
@@ -9,10 +9,11 @@ use native.Mathlib.Nat.{le-trans, le-of-eq, mul-one, mul-le-mul-right, mul-le-mu
 use native.Mathlib.Omega.{arith}
 use lib.Dec.{T, ltb→lt, lit≤}
 use lib.IntN.{ℤ, pos, negsuc, negℤ, natAbs, one, *ℤ-one, *ℤ-zero, +ℤ-idl, +ℤ-idr, +ℤ-comm, _+ℤ_, _*ℤ_}
-use lib.Ieee.{Float, binary64, eq, div}
+use lib.Ieee.{Float, binary64, eq, div, ofInt}
 use lib.Ieee.Bits.{is-true as on}
 use lib.Ieee.Scale.{finite}
-use Rattle.binary64.specs.Value.{zero64, one64}
+use Rattle.binary64.specs.Value.{roundAway, zero64, one64}
+use Rattle.binary64.specs.Step.{oneStep}
 use Rattle.binary64.proofs.Exact.{Is, is-finite, is-same, one-is, none-is, int-is, neg-is, mul-is, div-is, fma-is, is-round, nearest-is, is-beside}
 use Rattle.refusal.specs.declared.Refusal.the-variants as R
 use Rattle.units.specs.Physical.{physical, passed}
@@ -57,22 +58,25 @@ range-abs (negsuc n) h = ltb→lt n (2 ^ 31) h
 small : (z : ℤ) → T (inRange z) → natAbs z ≤ 2 ^ 53
 small z h = le-trans (range-abs z h) (lit≤ tt)
 
-module _ (d p : Float) (z : ℤ) (s : Is (div binary64 p d) z) (r : T (inRange z)) (at : Spot) where
-  unreported : pure z ≡ made z (deviations d at p z)
-  unreported = counts-beside d p z (abs (difference d p z)) refl (is-beside s (int-is z (small z r))) at z refl
+module _ (d p : Float) (z : ℤ) (r : T (inRange z)) (at : Spot) where
+  module _ (k : oneStep (div binary64 p d) (ofInt binary64 z) ≡ true) where
+    unreported : pure z ≡ made z (deviations d at p z)
+    unreported = counts-beside d p z (abs (difference d p z)) refl k at z refl
 
-  pub convert-whole : (policy : GdsRoundingPolicy) → T (finite p) → convertPhysical policy d at p ≡ pure z
-  unfolding convertPhysical onGrid
-  convert-whole policy f =
-      let e = on-rounded policy (div binary64 p d) (is-beside s (nearest-is s (small z r))) ∙ ap (λ (q : ℤ). pure q) (is-round s) in
-      then-pure _ (accept policy d p z f (is-finite s) e r) (sym unreported)
+    pub convert-beside : (policy : GdsRoundingPolicy) → T (finite p) → T (finite (div binary64 p d)) → onGrid (div binary64 p d) ≡ true → roundAway (div binary64 p d) ≡ z → convertPhysical policy d at p ≡ pure z
+    unfolding convertPhysical
+    convert-beside policy f g h e = then-pure _ (accept policy d p z f g (on-rounded policy (div binary64 p d) h ∙ ap (λ (q : ℤ). pure q) e) r) (sym unreported)
+
+  pub convert-whole : (policy : GdsRoundingPolicy) → T (finite p) → Is (div binary64 p d) z → convertPhysical policy d at p ≡ pure z
+  unfolding onGrid
+  convert-whole policy f s = convert-beside (is-beside s (int-is z (small z r))) policy f (is-finite s) (is-beside s (nearest-is s (small z r))) (is-round s)
 
 module _ (at : Spot) (p : Float) (z : ℤ) (h : Is p z) (r : T (inRange z)) where
   unreported-one : pure z ≡ made z (deviations one64 at p z)
-  unreported-one = unreported one64 p z (div-is h (small z r)) r at
+  unreported-one = unreported one64 p z r at (is-beside (div-is h (small z r)) (int-is z (small z r)))
 
   convert-one : convertPhysical Nearest one64 at p ≡ pure z
-  convert-one = convert-whole one64 p z (div-is h (small z r)) r at Nearest (is-finite h)
+  convert-one = convert-whole one64 p z r at Nearest (is-finite h) (div-is h (small z r))
 
 endpoint-one : (at : Spot) (o a : ℤ) (n : ℕ) (p : Float) → Is p (endpoint o a n) → T (inRange (endpoint o a n)) → arrayEndpoint one64 at o a n p ≡ pure (endpoint o a n)
 unfolding arrayEndpoint ranged

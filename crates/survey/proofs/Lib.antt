@@ -1,4 +1,4 @@
--- Laws of the pitch survey: one place more, the sum, the first place, and each way out of the code.
+-- Laws of the pitch survey: one place more, the sum, places that are never disturbed, and each way out of the code.
 pub mod PlaceLaws
-pub mod FirstLaws
+pub mod CleanLaws
 pub mod SurveyLaws

@@ -14,7 +14,8 @@ use Rattle.conversion.specs.declared.CallerPolicy.the-variants as C
 use Rattle.conversion.specs.Made.{Made, refused, made}
 use Rattle.conversion.specs.Policy.{callerPolicy}
 use Rattle.conversion.specs.Answer.{callerOf}
-use Rattle.conversion.proofs.MadeLaws.{Yields, made-yields, steps, checked, need-on, need-off, refused-on, pure-on}
+use Rattle.conversion.proofs.MadeLaws.{Yields, made-yields, steps, checked, need-on, need-off}
+use Rattle.conversion.proofs.PolicyLaws.{caller-refused, caller-policy}
 use Rattle.survey.specs.declared.Counts.{Counts}
 use Rattle.survey.specs.declared.SurveyAnswer.{SurveyAnswer}
 use Rattle.survey.specs.declared.SurveyAnswer.the-variants as A
@@ -44,11 +45,11 @@ module _ (policy : GdsRoundingPolicy) (d pitch : Float) (n : ℕ) where
 module _ (m : ℕ) (d pitch : Float) (n : ℕ) where
   pub caller-stop : (v : CallerPolicy) (r : Refusal) → v ≡ C.Refused r → callerOf v ≡ callerPolicy m d → A.Refused r ≡ answerOf (surveyPitch m d pitch n)
   unfolding surveyPitch
-  caller-stop v r e h = ap answerOf (refused-on (callerPolicy m d) (λ p. surveyOf p d pitch n) r (sym (ap callerOf e) ∙ h))
+  caller-stop v r e h = ap answerOf (caller-refused m d (λ p. surveyOf p d pitch n) v h r e)
 
   pub caller-on : (v : CallerPolicy) (p : GdsRoundingPolicy) → v ≡ C.With p → callerOf v ≡ callerPolicy m d → answerOf (surveyOf p d pitch n) ≡ answerOf (surveyPitch m d pitch n)
   unfolding surveyPitch
-  caller-on v p e h = ap answerOf (pure-on (callerPolicy m d) (λ p. surveyOf p d pitch n) p (sym (ap callerOf e) ∙ h))
+  caller-on v p e h = ap answerOf (caller-policy m d (λ p. surveyOf p d pitch n) v h p e)
 
   -- ---- the promise
 

@@ -2,12 +2,13 @@
 use mathlib.Core.Path.{_≡_}
 use mathlib.Core.Bool.{Bool, true, false, _&&_, cond}
 use mathlib.Core.List.{[], _∷_}
-use Prim.Native.Nat.{ℕ, zero, suc, _+_}
+use Prim.Native.Nat.{ℕ, zero, suc, _+_, _*_, _^_, _<_}
 use lib.Dec.{T, leb}
 use lib.IntN.{ℤ, pos}
-use lib.Ieee.{Float, binary64, mul, ofInt}
+use lib.Ieee.{Float, binary64, mul, ofInt, fits}
 use lib.Ieee.Positive.{positive}
 use lib.Ieee.Scale.{finite}
+use Rattle.binary64.specs.Value.{sizeOf}
 use Rattle.refusal.specs.declared.Refusal.the-variants as R
 use Rattle.conversion.specs.declared.GdsRoundingPolicy.{GdsRoundingPolicy}
 use Rattle.conversion.specs.Made.{Made, refused, made, pure, need, _>>=_, _>>_}
@@ -97,3 +98,9 @@ Together = (policy : GdsRoundingPolicy) (d pitch : Float) (n : ℕ) → counted 
 -- The first place is 0 or -0, and is never disturbed.
 abbrev pub FirstClean : Type 0
 FirstClean = (policy : GdsRoundingPolicy) (d pitch : Float) → T (positive d) → T (finite pitch) → placedAt policy d pitch 0 ≡ P.Clean
+
+-- A pitch that is exactly m times the unit disturbs no place that is finite and within 32 bits: so d itself, and d times a power of two. Exactly: both as whole numbers of 2 ^ -1074.
+abbrev pub MultipleClean : Type 0
+MultipleClean =
+    (policy : GdsRoundingPolicy) (d pitch : Float) (m i : ℕ) → T (fits binary64 d) → T (fits binary64 pitch) → T (positive d) → T (positive pitch)
+    → sizeOf pitch ≡ m * sizeOf d → i * m < 2 ^ 31 → T (finite (placeAt pitch i)) → placedAt policy d pitch i ≡ P.Clean
