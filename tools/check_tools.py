@@ -7,8 +7,8 @@ For each case of the files (their form stands in tools/pack_cases.py): a sheet w
 and must come out as it went in; an expected stream and its entries are read by stream_to_text.py, which must not
 complain; the answer must be the model's. Then faulty texts and damaged streams must get their message and nothing
 else, and so must wrong uses of bounds.py and survey.py, which must give the answers of tools/bounds_cases.txt and
-tools/survey_cases.txt where the static library is built; a survey's picture must show as many places as its counts say.
-The last line counts; the exit status is 0 if nothing was wrong.
+tools/survey_cases.txt where the static library is built, with the model's own picture of each row. The last line counts;
+the exit status is 0 if nothing was wrong.
 """
 import os
 import struct
@@ -17,6 +17,7 @@ import sys
 import arguments
 import bounds
 import cell_text
+import conversions
 import exported
 import model
 import pack_cases
@@ -144,28 +145,25 @@ def stored(tool, library, layout, words, count):
             said, status = tool.told(library, *values)
             first, *rest = said.split("\n")
             word, *numbers = answer.split(" ")
-            if word == "ok" and (first, status) != (words(*numbers), 0):
+            if word == "ok":
+                right = (first, status) == (words(*numbers), 0)
+            else:
+                right = first.startswith((f"refusal {numbers[0]}:", f"refusal {numbers[0]},")) and status == 1
+            if not right:
                 count.fail(f"{name}: {answer}, and {tool.__name__}.py says: {first}")
-            if word == "no" and not (first.startswith((f"refusal {numbers[0]}:", f"refusal {numbers[0]},")) and status == 1):
-                count.fail(f"{name}: {answer}, and {tool.__name__}.py says: {first}")
-            if tool is survey and word == "ok":
-                shown(name, rest, values[-1], list(map(int, numbers)), count)
+            elif tool is survey and word == "ok" and rest != picture(*values):
+                count.fail(f"{name}: the row is shown as {rest}")
 
 
-def shown(name, lines, n, counts, count):
-    """Where a mark is one place, the marks are as many as the counts say; else none is x without a refused place, nor o without one due. A clean row has none."""
-    if counts[0] == n:
-        if lines != ["no place is disturbed"]:
-            count.fail(f"{name}: a clean row is shown as {lines}")
-        return
-    marks = "".join(line[7:] for line in lines[1:])
-    found = [marks.count(mark) for mark in ".ox"]
-    if lines[0].startswith("a mark is one place:"):
-        right = found == counts and n <= survey.LINE * survey.LINES
-    else:
-        right = sum(found) <= survey.LINE * survey.LINES and found[1] <= counts[1] and found[2] <= counts[2] and bool(found[1] + found[2]) == bool(counts[1] + counts[2])
-    if not right:
-        count.fail(f"{name}: the picture has {found} places, and the counts are {counts}")
+def picture(policy, d, pitch, n):
+    """The row as the model has it, place by place."""
+    row = [conversions.placed(policy, d, pitch, i) for i in range(n)]
+    if not any(row):
+        return ["no place is disturbed"]
+    each = -(-n // 1024)
+    marks = "".join(".ox"[max(row[start:start + each])] for start in range(0, n, each))
+    lines = [f"{start * each:5}  {marks[start:start + 64]}" for start in range(0, len(marks), 64)]
+    return [f"a mark is {'one place' if each == 1 else f'{each} places'}: . clean, o due, x refused"] + lines
 
 
 def stored_answers(count):

@@ -132,6 +132,14 @@ def convert_bounds(policy, d, lower, upper):
     return least, greatest
 
 
+def placed(policy, d, pitch, i):
+    """Place i of a row: 0 clean, 1 due, 2 refused"""
+    try:
+        return convert_physical(policy, d, float(i) * pitch)[1]
+    except Refused:
+        return 2
+
+
 def survey_pitch(policy, d, pitch, n):
     """[clean, due, refused] of the places 0 to n - 1"""
     check_caller(policy, d)
@@ -141,10 +149,7 @@ def survey_pitch(policy, d, pitch, n):
         raise Refused(NOT_FINITE)
     counts = [0, 0, 0]
     for i in range(n):
-        try:
-            counts[convert_physical(policy, d, float(i) * pitch)[1]] += 1
-        except Refused:
-            counts[2] += 1
+        counts[placed(policy, d, pitch, i)] += 1
     return counts
 
 
@@ -341,4 +346,5 @@ def main():
             sys.stdout.buffer.write(record)
 
 
-main()
+if __name__ == "__main__":
+    main()

@@ -14,9 +14,10 @@ the row starts with the number of its first place. The answers are the proved li
 
 Exit status: 0 with counts, 1 with a refusal, 2 where it was called wrongly or the library is not there.
 """
+import cell_text
 import exported
 import refusal
-from arguments import Wrong, answer, cell_text, is_number, policy_of, split, value_of
+from arguments import Wrong, answer, is_number, policy_of, split, value_of
 
 LINE, LINES = 64, 16  # marks in a line, and lines, at most
 MOST = 2**32 - 1  # that the library's argument holds

@@ -22,8 +22,8 @@ use Rattle.survey.specs.declared.Counts.{Counts}
 use Rattle.survey.specs.Places.{placedAt, countOf, isClean, isDue, isRefused, counted, maxPlaces, placesFit, surveyOf, surveyPitch}
 use Rattle.survey.specs.Answer.{answerOf, Values, valuesOf}
 use Rattle.survey.specs.Survey.{SurveysPitch}
-use Rattle.survey.proofs.CleanLaws.{multiple-clean}
-use Rattle.cases.specs.Doubles.{half, one, nearest}
+use Rattle.survey.proofs.CleanLaws.{first-clean, multiple-clean}
+use Rattle.cases.specs.Doubles.{minus, least, half, one, i32Max, greatest, nearest}
 use Rattle.cases.specs.Survey.{Row, Place, tenth, fourTenths, limits, orders, surveys, places}
 use Rattle.cases.proofs.Open.{opened}
 
@@ -124,8 +124,19 @@ module _ (m : ℕ) (policy : GdsRoundingPolicy) (d pitch : Float) (n : ℕ) (v :
   pub n-together : v .clean + v .due + v .refused ≡ n
   n-together = h .together accepted
 
--- ---- a pitch that is exactly a whole number of units: 0.4 is four times 0.1
+-- ---- places that are never disturbed
 
+-- the first, also of a pitch below 0 and of the least unit
+pub first-always-clean : (policy : GdsRoundingPolicy) → placedAt policy (ofBits binary64 least) (ofBits binary64 (minus greatest)) 0 ≡ Clean
+unfolding opened
+first-always-clean policy = first-clean policy (ofBits binary64 least) (ofBits binary64 (minus greatest)) tt tt
+
+-- those of a pitch that is exactly a whole number of units: 0.4 is four times 0.1
 pub four-tenths-clean : (policy : GdsRoundingPolicy) → placedAt policy (ofBits binary64 tenth) (ofBits binary64 fourTenths) 65535 ≡ Clean
 unfolding opened fits
 four-tenths-clean policy = multiple-clean policy (ofBits binary64 tenth) (ofBits binary64 fourTenths) 4 65535 tt tt tt tt refl (lit< tt) tt
+
+-- as far as 32 bits go
+pub most-units-clean : (policy : GdsRoundingPolicy) → placedAt policy (ofBits binary64 one) (ofBits binary64 i32Max) 1 ≡ Clean
+unfolding opened fits
+most-units-clean policy = multiple-clean policy (ofBits binary64 one) (ofBits binary64 i32Max) 2147483647 1 tt tt tt tt refl (lit< tt) tt
