@@ -99,7 +99,7 @@ Together = (policy : GdsRoundingPolicy) (d pitch : Float) (n : ℕ) → counted 
 abbrev pub FirstClean : Type 0
 FirstClean = (policy : GdsRoundingPolicy) (d pitch : Float) → T (positive d) → T (finite pitch) → placedAt policy d pitch 0 ≡ P.Clean
 
--- A pitch that is exactly m times the unit disturbs no place that is finite and within 32 bits: so d itself, and d times a power of two. Exactly: both as whole numbers of 2 ^ -1074.
+-- A positive pitch that is exactly m times the unit disturbs no place that is finite and within 32 bits: so d itself, and d times a power of two. Exactly: both as whole numbers of 2 ^ -1074.
 abbrev pub MultipleClean : Type 0
 MultipleClean =
     (policy : GdsRoundingPolicy) (d pitch : Float) (m i : ℕ) → T (fits binary64 d) → T (fits binary64 pitch) → T (positive d) → T (positive pitch)
