@@ -11,7 +11,7 @@ use Rattle.sheet.specs.Encode.{cellSheet}
 use Rattle.stream.specs.Structure.{Structure}
 use Rattle.stream.specs.Drawn.{drawnOf}
 use Rattle.stream.specs.Read.{mapOption, structureOf}
-use Rattle.cell.specs.Cell.{Result, stopped, written, measureCell, structureBytes}
+use Rattle.cell.specs.Cell.{Result, stopped, written, cellStructure, structureBytes}
 use Rattle.cell.specs.Edges.{alongX, alongY, cellEdges, drawnPoints, here, later, InOrder, KeepsEdges}
 use Rattle.cases.specs.Case.{halved}
 use Rattle.cases.specs.Read.{stream, cell}
@@ -50,7 +50,7 @@ abbrev pub structureIn : Result Structure → Option Structure
 structureIn (stopped r k) = none
 structureIn (written s es) = some s
 
-pub kept-written : structureIn (measureCell 0 two (cellSheet pair)) ≡ some kept
+pub kept-written : structureIn (cellStructure 0 two (cellSheet pair)) ≡ some kept
 unfolding opened pair kept
 kept-written = refl
 

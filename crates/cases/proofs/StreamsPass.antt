@@ -10,7 +10,7 @@ use Rattle.refusal.specs.Number.{number}
 use Rattle.parsing.specs.Parse.{Outcome, refused, given}
 use Rattle.stream.specs.Structure.{Structure}
 use Rattle.stream.specs.Read.{Fault, Stop, unlimited, readStructure}
-use Rattle.cell.specs.Cell.{Result, measureCell, structureBytes}
+use Rattle.cell.specs.Cell.{Result, cellStructure, structureBytes}
 use Rattle.cell.specs.Cell as C
 use Rattle.reading.specs.Read.{Reading, stopped, made, measureStructure, nearest}
 use Rattle.cases.specs.Case.{halved, unpacked, sameBytes}
@@ -48,8 +48,8 @@ agrees (stopped r k) (no n b) bytes = eqb (number r) n && eqb k b
 agrees (stopped r k) (own n v) bytes = false
 agrees (stopped r k) (other n v m w) bytes = false
 agrees (made sheet) (no n b) bytes = false
-agrees (made sheet) (own n v) bytes = sameBytes sheet (unpacked n v) && isWritten (measureCell nearest one64 sheet) bytes
-agrees (made sheet) (other n v m w) bytes = sameBytes sheet (unpacked n v) && isWritten (measureCell nearest one64 sheet) (unpacked m w)
+agrees (made sheet) (own n v) bytes = sameBytes sheet (unpacked n v) && isWritten (cellStructure nearest one64 sheet) bytes
+agrees (made sheet) (other n v m w) bytes = sameBytes sheet (unpacked n v) && isWritten (cellStructure nearest one64 sheet) (unpacked m w)
 
 abbrev pub passes : List ℕ → Answer → Bool
 passes bytes a = agrees (measureStructure bytes) a bytes

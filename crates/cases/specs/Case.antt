@@ -4,14 +4,13 @@ use mathlib.Core.Option.{Option, none, some}
 use mathlib.Core.List.{List, [], _∷_, _++_}
 use Prim.Native.Nat.{ℕ, zero, suc, _-_, _*_, _/_, _%_, _^_}
 use lib.Dec.{eqb}
-use lib.Ieee.{ofBits, binary64}
+use lib.Ieee.{ofBits, toBits, binary64}
 use Rattle.big_endian.specs.Big.{bytesOf}
 use Rattle.conversion.specs.Entry.{reportBytes}
 use Rattle.stream.specs.Structure.{Structure}
 use Rattle.stream.specs.Read.{structureOf}
 use Rattle.cell.specs.Cell.{Result, stopped, written, structureBytes, entryLength, writeCell}
 use Rattle.cell.specs.Answer.{Values, answerOf, valuesOf}
-use Rattle.cell.specs.Answer as A
 
 -- as the program prints it: number and block; or length, entries, error bits, the stream and the entries
 pub data Expected : Type 0 where
@@ -49,10 +48,8 @@ isRead (some s) = true
 
 -- the answer's values are those of the line
 abbrev pub sameValues : Values → Expected → Bool
-sameValues (A.no n b) (no m c) = eqb n m && eqb b c
-sameValues (A.no n b) (ok m c x stream entries) = false
-sameValues (A.ok n k g) (no m c) = false
-sameValues (A.ok n k g) (ok m c x stream entries) = eqb n m && eqb k c && eqb g x
+sameValues v (no n b) = eqb (v .number) n && eqb (v .block) b
+sameValues v (ok n k x stream entries) = eqb (v .number) 0 && eqb (v .length) n && eqb (v .entries) k && eqb (toBits binary64 (v .greatest)) x
 
 -- the stream is as expected and a structure is read from it, and the report is as expected
 abbrev pub sameOutput : Result Structure → Expected → Bool

@@ -35,7 +35,7 @@ use Rattle.cell.specs.Limits.{maxSheetLength}
 use Rattle.cell.specs.Stamps.{stampsFit}
 use Rattle.cell.specs.Names.{isName}
 use Rattle.cell.specs.Write.{layerAndType, writeProperties, encodable, writeReal, writeMagnification, writeAngle, writeTransform, single, writeShape, writePolygon, writeNode, writePath, writeText, writeSref, writeAref, writeReference, writeBody, writeElement}
-use Rattle.cell.specs.Cell.{Result, stopped, written, writeOne, writeBlock, writeBlocks, structureWith, writeHeaded, writeSheet, measureWith, measureCell}
+use Rattle.cell.specs.Cell.{Result, stopped, written, writeOne, writeBlock, writeBlocks, structureWith, writeHeaded, writeSheet, afterCaller, cellStructure}
 use Rattle.cell.proofs.ResultLaws.{Stops, check-stops}
 
 -- ---- steps
@@ -256,11 +256,11 @@ sheet-before policy d sheet = check-stops Before21 (pairsFit sheet) _ _ (λ f. l
         (λ t. check-stops Before21 (isName (h .name)) _ _ (λ f. lit≤ tt) (λ n. whole h (writeBlocks policy d 0 (elementBlocks sheet)) (blocks-before policy d 0 (elementBlocks sheet))))
 
 -- Measuring answers with a refusal other than 21 and 22.
-pub measured-before : (policy : ℕ) (d : Float) (sheet : List ℕ) → Stops Before21 (measureCell policy d sheet)
-unfolding measureCell measureWith
+pub measured-before : (policy : ℕ) (d : Float) (sheet : List ℕ) → Stops Before21 (cellStructure policy d sheet)
+unfolding cellStructure afterCaller
 measured-before policy d sheet = go (callerPolicy policy d) (caller policy d)
   where
-    go : (m : Made GdsRoundingPolicy) → Caller policy d m → Stops Before21 (measureWith m d sheet)
+    go : (m : Made GdsRoundingPolicy) → Caller policy d m → Stops Before21 (afterCaller m d sheet)
     go m (unnamed e) = lit≤ tt
     go m (noUnit rounding e never) = lit≤ tt
     go m (passes rounding e u) = check-stops Before21 (leb (length sheet) maxSheetLength) _ _ (λ f. lit≤ tt) (λ l. sheet-before rounding d sheet)

@@ -12,6 +12,7 @@ use lib.Ieee.{Float, binary64, fits}
 use lib.Ieee.Bits.{is-true as on}
 use lib.Ieee.Positive.{positive}
 use Rattle.big_endian.specs.Big.{Bytes}
+use Rattle.big_endian.specs.Buffer.{over}
 use Rattle.big_endian.proofs.BytesLaws.{take-bytes, drop-bytes}
 use Rattle.parsing.specs.All.{All, done, more}
 use Rattle.conversion.specs.declared.GdsRoundingPolicy.{GdsRoundingPolicy}
@@ -32,10 +33,11 @@ use Rattle.cell.specs.Limits.{maxSheetLength}
 use Rattle.cell.specs.Stamps.{stampsFit}
 use Rattle.cell.specs.Names.{isName}
 use Rattle.cell.specs.Write.{writeElement}
-use Rattle.cell.specs.Cell.{Result, stopped, written, writeOne, writeBlock, writeBlocks, structureFor, structureWith, writeHeaded, writeSheet, measureWith, measureCell, structureBytes, entryLength, fitting, writeCell, outAfter}
+use Rattle.cell.specs.Cell.{Result, stopped, written, writeOne, writeBlock, writeBlocks, structureFor, structureWith, writeHeaded, writeSheet, afterCaller, cellStructure, structureBytes, entryLength, fitting, writeCell, outAfter}
 use Rattle.cell.specs.Answer.{answerOf}
-use Rattle.cell.specs.Draws.{Each, AlikeElement, Alike, Draws, Demand3}
+use Rattle.cell.specs.Draws.{Each, AlikeElement, Alike, Draws}
 use Rattle.cell.specs.Draws as W
+use Rattle.cell.specs.Demand3.{Demand3}
 use Rattle.cell.specs.Edges.{cellEdges, drawnPoints, KeepsEdges, EdgesNeverCross}
 use Rattle.cell.proofs.ResultLaws.{Whenever, whenever-map, check-whenever}
 use Rattle.cell.proofs.Taken.{each-append, each-length, TakenPoint, taken-order}
@@ -130,11 +132,11 @@ module _ (policy : ℕ) (d : Float) (sheet : List ℕ) (fd : T (fits binary64 d)
   sound-drawing : (rounding : GdsRoundingPolicy) → policyOf policy ≡ some rounding → (pd : T (positive d)) (s : Structure) → Sound rounding d fd pd sheet s → Drawing policy d sheet s
   sound-drawing rounding e pd s h = record { fit = h .fit; draws = h .draws policy e; edges = h .edges }
 
-  pub measured-drawing : Whenever (Drawing policy d sheet) (measureCell policy d sheet)
-  unfolding measureCell measureWith
+  pub measured-drawing : Whenever (Drawing policy d sheet) (cellStructure policy d sheet)
+  unfolding cellStructure afterCaller
   measured-drawing = go (callerPolicy policy d) (caller policy d)
     where
-      go : (m : Made GdsRoundingPolicy) → Caller policy d m → Whenever (Drawing policy d sheet) (measureWith m d sheet)
+      go : (m : Made GdsRoundingPolicy) → Caller policy d m → Whenever (Drawing policy d sheet) (afterCaller m d sheet)
       go m (unnamed e) = tt
       go m (noUnit rounding e never) = tt
       go m (passes rounding e pd) =
@@ -143,7 +145,7 @@ module _ (policy : ℕ) (d : Float) (sheet : List ℕ) (fd : T (fits binary64 d)
 
   pub written-drawing : (out report : ℕ) → Whenever (Drawing policy d sheet) (writeCell policy d sheet out report)
   unfolding writeCell fitting
-  written-drawing out report = go (measureCell policy d sheet) measured-drawing
+  written-drawing out report = go (cellStructure policy d sheet) measured-drawing
     where
       go : (x : Result Structure) → Whenever (Drawing policy d sheet) x → Whenever (Drawing policy d sheet) (fitting out report x)
       go (stopped r k) h = tt
@@ -154,6 +156,7 @@ module _ (policy : ℕ) (d : Float) (sheet : List ℕ) (fd : T (fits binary64 d)
 -- Where the answer is a structure of n bytes, the output's first n bytes are the structure's.
 accepted-bytes : (P : List ℕ → Type 0) (out : List ℕ) (n entries : ℕ) (greatest : Float) (x : Result Structure) → Whenever (λ s. P (structureBytes s)) x
     → answerOf x ≡ A.Accepted n entries greatest → P (take n (outAfter x out))
+unfolding over
 accepted-bytes P out n entries greatest (stopped r k) h q = let z : _≡_ {A = ℕ} 0 1 = cc in absurd (omega arith)
 accepted-bytes P out n entries greatest (written s es) h q =
     let e : length (structureBytes s) ≡ n = cc in

@@ -212,9 +212,9 @@ module _ (policy : GdsRoundingPolicy) (d : Float) (fd : T (fits binary64 d)) (pd
   -- on one axis
   instances-alike : (c r : ℕ) (po pa pb : Float) (o a b : ℤ) → AxisConverted policy d po pa pb o a b → AlikeInstances policy d c r po pa pb o a b
   instances-alike c r po pa pb o a b k = record {
-    origin = k .origin .physical;
-    column = k .column .physical;
-    row = k .row .physical;
+    originFinite = k .origin .physical;
+    columnFinite = k .column .physical;
+    rowFinite = k .row .physical;
     instances = λ i j hi hj. instances-close policy d po pa pb o a b k i j;
   }
 

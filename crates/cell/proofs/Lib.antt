@@ -7,4 +7,5 @@ pub mod DrawsLaws
 pub mod WalkLaws
 pub mod OrderLaws
 pub mod MeasureLaws
+pub mod AnswerLaws
 pub mod CauseLaws

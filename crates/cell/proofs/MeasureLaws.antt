@@ -1,5 +1,4 @@
--- Measuring and writing agree: where measuring refuses, writing refuses likewise whatever the buffers; elsewhere writing gives what was measured, but for 21 and then 22,
--- exactly where a buffer is shorter than measured. And the records of what is written have lengths that their heads can say. Assumes nothing.
+-- Measuring and writing agree. And the records of what is written have lengths that their heads can say. Assumes nothing.
 use mathlib.Core.Path.{_≡_, ap, _∙_, subst}
 use mathlib.Core.List.{List}
 use Prim.Native.Nat.{ℕ, _*_, _≤_, _<_}
@@ -22,17 +21,11 @@ use Rattle.stream.proofs.BytesLaws.{lengths}
 use Rattle.stream.proofs.BackLaws.{record-lengths, structure-length}
 use Rattle.cell.specs.declared.Answer.{Answer}
 use Rattle.cell.specs.declared.Answer.the-variants as A
-use Rattle.cell.specs.Cell.{Result, stopped, written, measureCell, structureBytes, entryLength, fitting, writeCell}
+use Rattle.cell.specs.Cell.{Result, stopped, written, cellStructure, structureBytes, entryLength, fitting, writeCell}
 use Rattle.cell.specs.Answer.{answerOf}
+use Rattle.cell.specs.Agree.{Agrees, WritingAgrees}
 use Rattle.cell.proofs.ResultLaws.{Whenever, check-on, check-off}
 use Rattle.cell.proofs.DrawsLaws.{written-drawing}
-
--- what writing answers where measuring answered a, given so much output and report
-pub record Agrees (out report : ℕ) (a b : Answer) : Type 0 where
-  pub refused : (r : Refusal) (k : ℕ) → a ≡ A.Refused r k → b ≡ A.Refused r k
-  pub outputShort : (n c : ℕ) (g : Float) → a ≡ A.Accepted n c g → out < n → b ≡ A.Refused R.OutputShort 0
-  pub reportShort : (n c : ℕ) (g : Float) → a ≡ A.Accepted n c g → n ≤ out → report < entryLength * c → b ≡ A.Refused R.ReportShort 0
-  pub accepted : (n c : ℕ) (g : Float) → a ≡ A.Accepted n c g → n ≤ out → entryLength * c ≤ report → b ≡ A.Accepted n c g
 
 fitting-agrees : (out report : ℕ) (x : Result Structure) → Agrees out report (answerOf x) (answerOf (fitting out report x))
 unfolding fitting
@@ -63,10 +56,9 @@ fitting-agrees out report (written s es) =
           ap answerOf (check-on (leb bytes out) _ _ (le-leb bytes out (omega arith)) ∙ check-on (leb entries report) _ _ (le-leb entries report (omega arith))) ∙ e;
     }
 
-pub writing-agrees : (policy : ℕ) (d : Float) (sheet : List ℕ) (out report : ℕ)
-    → Agrees out report (answerOf (measureCell policy d sheet)) (answerOf (writeCell policy d sheet out report))
+pub writing-agrees : WritingAgrees
 unfolding writeCell
-writing-agrees policy d sheet out report = fitting-agrees out report (measureCell policy d sheet)
+writing-agrees policy d sheet out report = fitting-agrees out report (cellStructure policy d sheet)
 
 -- ---- lengths
 

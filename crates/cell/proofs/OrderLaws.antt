@@ -28,7 +28,7 @@ use Rattle.cell.specs.Limits.{maxSheetLength}
 use Rattle.cell.specs.Stamps.{stampsFit}
 use Rattle.cell.specs.Names.{isName}
 use Rattle.cell.specs.Write.{writeElement}
-use Rattle.cell.specs.Cell.{Result, stopped, written, inFront, writeOne, writeBlock, writeBlocks, structureWith, writeHeaded, writeSheet, measureWith, measureCell, structureBytes, entryLength, fitting, writeCell}
+use Rattle.cell.specs.Cell.{Result, stopped, written, inFront, writeOne, writeBlock, writeBlocks, structureWith, writeHeaded, writeSheet, afterCaller, cellStructure, structureBytes, entryLength, fitting, writeCell}
 use Rattle.cell.specs.Order.{Accepted, Called, Headed, Reached, First, Ordered}
 use Rattle.cell.specs.Order as O
 use Rattle.cell.proofs.ResultLaws.{Stops, check-stops, check-on, check-off}
@@ -97,11 +97,11 @@ module _ (policy : ℕ) (d : Float) (sheet : List ℕ) (out report : ℕ) where
       whole (stopped r k) f = f
       whole (written ws es) f = tt
 
-  measured-first : Firsts (measureCell policy d sheet)
-  unfolding measureCell measureWith writeSheet
+  measured-first : Firsts (cellStructure policy d sheet)
+  unfolding cellStructure afterCaller writeSheet
   measured-first = go (callerPolicy policy d) (caller policy d)
     where
-      go : (m : Made GdsRoundingPolicy) → Caller policy d m → Firsts (measureWith m d sheet)
+      go : (m : Made GdsRoundingPolicy) → Caller policy d m → Firsts (afterCaller m d sheet)
       go m (unnamed e) = O.policyAbove3 e
       go m (noUnit rounding e never) = O.unitNotPositive rounding e never
       go m (passes rounding e u) =
@@ -111,9 +111,9 @@ module _ (policy : ℕ) (d : Float) (sheet : List ℕ) (out report : ℕ) where
 
   written-first : Firsts (writeCell policy d sheet out report)
   unfolding writeCell fitting
-  written-first = go (measureCell policy d sheet) refl measured-first
+  written-first = go (cellStructure policy d sheet) refl measured-first
     where
-      go : (x : Result Structure) → measureCell policy d sheet ≡ x → Firsts x → Firsts (fitting out report x)
+      go : (x : Result Structure) → cellStructure policy d sheet ≡ x → Firsts x → Firsts (fitting out report x)
       go (stopped r k) e f = f
       go (written s es) e f =
           check-stops _ (leb (length (structureBytes s)) out) R.OutputShort _ (λ no. O.outputTooShort s es e (not-leb (length (structureBytes s)) out no))
@@ -124,19 +124,19 @@ module _ (policy : ℕ) (d : Float) (sheet : List ℕ) (out report : ℕ) where
 
   module _ (at : Called policy d sheet) where
     -- 1 to 3 have passed: the rest is the cell from its 4 on
-    called-is : measureCell policy d sheet ≡ writeSheet (at .rounding) d sheet
-    unfolding measureCell measureWith
+    called-is : cellStructure policy d sheet ≡ writeSheet (at .rounding) d sheet
+    unfolding cellStructure afterCaller
     called-is =
-        ap (λ (m : Made GdsRoundingPolicy). measureWith m d sheet) (caller-with policy d (at .rounding) (at .named) (on (positive d) (at .unit)))
+        ap (λ (m : Made GdsRoundingPolicy). afterCaller m d sheet) (caller-with policy d (at .rounding) (at .named) (on (positive d) (at .unit)))
         ∙ check-on (leb (length sheet) maxSheetLength) _ _ (le-leb (length sheet) maxSheetLength (at .size))
 
     -- and 4
-    paired-is : (x : Option Head) → T (pairsFit sheet) → headOf (blockOf sheet 0) ≡ x → measureCell policy d sheet ≡ writeHeaded (at .rounding) d sheet x
+    paired-is : (x : Option Head) → T (pairsFit sheet) → headOf (blockOf sheet 0) ≡ x → cellStructure policy d sheet ≡ writeHeaded (at .rounding) d sheet x
     unfolding writeSheet
     paired-is x p e = called-is ∙ check-on (pairsFit sheet) _ _ (on (pairsFit sheet) p) ∙ ap (λ (y : Option Head). writeHeaded (at .rounding) d sheet y) e
 
   -- and the head
-  headed-is : (at : Headed policy d sheet) → measureCell policy d sheet ≡ structureWith (at .head) (writeBlocks (at .called .rounding) d 0 (elementBlocks sheet))
+  headed-is : (at : Headed policy d sheet) → cellStructure policy d sheet ≡ structureWith (at .head) (writeBlocks (at .called .rounding) d 0 (elementBlocks sheet))
   unfolding writeHeaded
   headed-is at =
       paired-is (at .called) (some (at .head)) (at .pairs) (at .held)
@@ -154,7 +154,7 @@ module _ (policy : ℕ) (d : Float) (sheet : List ℕ) (out report : ℕ) where
       ∙ ap (inFront (a .said) (entryOf i (kindOf (a .element .body)) (a .deviations))) (past rounding (suc i) j before rest r k (omega arith) rest-accepted e)
 
   reached-is : (b : List ℕ) (k : ℕ) (at : Reached policy d sheet b k) (r : Refusal)
-      → writeBlocks (at .headed .called .rounding) d (length (at .before)) (b ∷ at .after) ≡ stopped r (suc (length (at .before))) → measureCell policy d sheet ≡ stopped r k
+      → writeBlocks (at .headed .called .rounding) d (length (at .before)) (b ∷ at .after) ≡ stopped r (suc (length (at .before))) → cellStructure policy d sheet ≡ stopped r k
   reached-is b k at r e =
       let rounding = at .headed .called .rounding in
       headed-is (at .headed)
@@ -163,17 +163,17 @@ module _ (policy : ℕ) (d : Float) (sheet : List ℕ) (out report : ℕ) where
       ∙ ap (stopped r) (sym (at .block))
 
   -- a refusal of measuring is one of writing
-  stops : (r : Refusal) (k : ℕ) → measureCell policy d sheet ≡ stopped r k → writeCell policy d sheet out report ≡ stopped r k
+  stops : (r : Refusal) (k : ℕ) → cellStructure policy d sheet ≡ stopped r k → writeCell policy d sheet out report ≡ stopped r k
   unfolding writeCell fitting
   stops r k e = ap (fitting out report) e
 
   first-is : (r : Refusal) (k : ℕ) → First policy d sheet out report r k → writeCell policy d sheet out report ≡ stopped r k
-  unfolding writeCell fitting measureCell measureWith writeSheet writeHeaded
-  first-is r k (O.policyAbove3 e) = stops r k (ap (λ (m : Made GdsRoundingPolicy). measureWith m d sheet) (caller-unnamed policy d e))
+  unfolding writeCell fitting cellStructure afterCaller writeSheet writeHeaded
+  first-is r k (O.policyAbove3 e) = stops r k (ap (λ (m : Made GdsRoundingPolicy). afterCaller m d sheet) (caller-unnamed policy d e))
   first-is r k (O.unitNotPositive rounding e never) =
-      stops r k (ap (λ (m : Made GdsRoundingPolicy). measureWith m d sheet) (caller-unit policy d rounding e (off (positive d) never)))
+      stops r k (ap (λ (m : Made GdsRoundingPolicy). afterCaller m d sheet) (caller-unit policy d rounding e (off (positive d) never)))
   first-is r k (O.sheetTooLong rounding e u l) =
-      stops r k (ap (λ (m : Made GdsRoundingPolicy). measureWith m d sheet) (caller-with policy d rounding e (on (positive d) u))
+      stops r k (ap (λ (m : Made GdsRoundingPolicy). afterCaller m d sheet) (caller-with policy d rounding e (on (positive d) u))
       ∙ check-off (leb (length sheet) maxSheetLength) _ _ (lt-leb (length sheet) maxSheetLength l))
   first-is r k (O.pairsIllFormed at never) = stops r k (called-is at ∙ check-off (pairsFit sheet) _ _ (off (pairsFit sheet) never))
   first-is r k (O.headIllFormed at p e) = stops r k (paired-is at none p e)

@@ -22,7 +22,7 @@ use Rattle.units.specs.Point.{Point}
 use Rattle.units.specs.Physical.{physical, passed}
 use Rattle.gds_format.specs.declared.Encoding.{Encoding}
 use Rattle.gds_format.specs.declared.Encoding.the-variants as E
-use Rattle.gds_format.specs.Real8.{real8, encoding, bytesOfEncoding}
+use Rattle.gds_format.specs.Real8.{real8, encoding, valuesOf}
 use Rattle.gds_format.proofs.Real8Laws.{real8-worth, real8-finite}
 use Rattle.conversion.specs.declared.GdsRoundingPolicy.{GdsRoundingPolicy}
 use Rattle.conversion.specs.Made.{Made, pure}
@@ -78,10 +78,10 @@ encodable-is (some a) b y = ap some (made-yields y)
 
 -- a real's bytes are bytes
 real8-bytes : (x : Float) (b : List ℕ) → real8 x ≡ some b → Bytes b
-unfolding real8 bytesOfEncoding
+unfolding real8
 real8-bytes x b e = go (encoding x) e
   where
-    go : (o : Encoding) → bytesOfEncoding o ≡ some b → Bytes b
+    go : (o : Encoding) → valuesOf o .bytes ≡ some b → Bytes b
     go (E.Refused r) e = let z : _≡_ {A = ℕ} 0 1 = cc in absurd (omega arith)
     go (E.Encoded r) e =
         let f : bytesOf 8 (r .pattern) ≡ b = cc in
@@ -122,12 +122,12 @@ strans-for r m a mb ab hm ha = go r mb ab hm ha
   where
     said : {r : Bool} (t : D.Strans) → r ≡ t .reflection → RealFor m one (t .magnification) → RealFor a (pos 0) (t .angle) → TransformFor r m a (some t)
     said t e hm ha = record {
-      alike = record { reflected = e; scale = hm .real; angle = ha .real; magnified = hm .worth; rotated = ha .worth };
+      alike = record { reflected = e; magnificationFinite = hm .real; degreesFinite = ha .real; magnified = hm .worth; rotated = ha .worth };
       fit = present (record { magnification = hm .fit; angle = ha .fit });
     }
 
     go : (r : Bool) (mb ab : Option (List ℕ)) → RealFor m one mb → RealFor a (pos 0) ab → TransformFor r m a (stransOf r mb ab)
-    go false none none hm ha = record { alike = record { reflected = refl; scale = hm .real; angle = ha .real; magnified = hm .worth; rotated = ha .worth }; fit = absent }
+    go false none none hm ha = record { alike = record { reflected = refl; magnificationFinite = hm .real; degreesFinite = ha .real; magnified = hm .worth; rotated = ha .worth }; fit = absent }
     go false none (some b) hm ha = said _ refl hm ha
     go false (some c) ab hm ha = said _ refl hm ha
     go true mb ab hm ha = said _ refl hm ha

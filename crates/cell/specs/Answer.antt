@@ -1,7 +1,7 @@
--- The answer as the code gives it, and its values in document 01 (its last paragraph, "Where an answer is an enum"). Assumes nothing.
+-- The answer as the code gives it, and its number and values (document 01, "Result three", and its last paragraph, "Where an answer is an enum"). Assumes nothing.
 use Prim.Native.Nat.{ℕ}
 use lib.ListN.{length}
-use lib.Ieee.{binary64, toBits}
+use lib.Ieee.{Float}
 use Rattle.binary64.specs.Value.{zero64}
 use Rattle.refusal.specs.Number.{number}
 use Rattle.conversion.specs.Entry.{greatestFrom}
@@ -15,12 +15,14 @@ abbrev pub answerOf : Result Structure → Answer
 answerOf (stopped r k) = A.Refused r k
 answerOf (written s es) = A.Accepted (length (structureBytes s)) (length es) (greatestFrom zero64 es)
 
--- the numbers of a line of the program: `no`, number, block; or `ok`, length, entries, error bits
-pub data Values : Type 0 where
-  no : ℕ → ℕ → Values
-  ok : ℕ → ℕ → ℕ → Values
+-- in numbers: the refusal's number, or 0, and its block; the structure's length, its entries and the greatest error; 0 for what a case does not have
+pub record Values : Type 0 where
+  pub number : ℕ
+  pub block : ℕ
+  pub length : ℕ
+  pub entries : ℕ
+  pub greatest : Float
 
--- the values of each case
 abbrev pub valuesOf : Answer → Values
-valuesOf (A.Refused r k) = no (number r) k
-valuesOf (A.Accepted n entries greatest) = ok n entries (toBits binary64 greatest)
+valuesOf (A.Refused r k) = record { number = number r; block = k; length = 0; entries = 0; greatest = zero64 }
+valuesOf (A.Accepted n entries greatest) = record { number = 0; block = 0; length = n; entries = entries; greatest = greatest }

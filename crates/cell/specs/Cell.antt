@@ -1,12 +1,13 @@
 -- Writing a cell (document 01, "Who can cause which refusal" and "Result three"; `write_cell_with_options` of write/mod.rs). Assumes nothing.
--- The cell from its 4 on is `writeSheet`; measuring puts 1 to 3 before it, and writing 21 and 22 after that.
+-- The cell from its 4 on is `writeSheet`; `cellStructure` puts 1 to 3 before it, and writing 21 and 22 after that.
 use mathlib.Core.Bool.{Bool, true, false}
 use mathlib.Core.Option.{Option, none, some}
 use mathlib.Core.List.{List, [], _∷_, _++_}
 use Prim.Native.Nat.{ℕ, suc, _*_}
 use lib.Dec.{leb}
-use lib.ListN.{length, drop}
+use lib.ListN.{length}
 use lib.Ieee.{Float}
+use Rattle.big_endian.specs.Buffer.{over}
 use Rattle.refusal.specs.declared.Refusal.{Refusal}
 use Rattle.refusal.specs.declared.Refusal.the-variants as R
 use Rattle.conversion.specs.declared.GdsRoundingPolicy.{GdsRoundingPolicy}
@@ -43,10 +44,10 @@ abbrev pub inFront : Said → List Entry → Result (List Said) → Result (List
 inFront w es (stopped r k) = stopped r k
 inFront w es (written ws fs) = written (w ∷ ws) (es ++ fs)
 
--- The element of index i and kind k ("block k is element index k − 1"), and what the others after it gave.
+-- The element of index i ("block k is element index k − 1") and its kind, and what the others after it gave.
 unfoldable pub writeOne : ℕ → ℕ → Made Said → Result (List Said) → Result (List Said)
-writeOne i k (refused r) others = stopped r (suc i)
-writeOne i k (made w vs) others = inFront w (entryOf i k vs) others
+writeOne i kind (refused r) others = stopped r (suc i)
+writeOne i kind (made w vs) others = inFront w (entryOf i kind vs) others
 
 module _ (policy : GdsRoundingPolicy) (d : Float) where
   -- "form first", then the element's own order
@@ -82,15 +83,15 @@ writeHeaded policy d sheet (some h) =
 unfoldable pub writeSheet : GdsRoundingPolicy → Float → List ℕ → Result Structure
 writeSheet policy d sheet = check (pairsFit sheet) R.Pairs (writeHeaded policy d sheet (headOf (blockOf sheet 0)))
 
--- ---- measuring: "Caller, first: 1 policy above 3; 2 d not finite and positive; 3 sheet over 16,777,216 bytes."
+-- ---- all that is measured: "Caller, first: 1 policy above 3; 2 d not finite and positive; 3 sheet over 16,777,216 bytes."
 
--- after 1 and 2, or what they refuse
-unfoldable pub measureWith : Made GdsRoundingPolicy → Float → List ℕ → Result Structure
-measureWith (refused r) d sheet = stopped r 0
-measureWith (made policy vs) d sheet = check (leb (length sheet) maxSheetLength) R.SheetSize (writeSheet policy d sheet)
+-- what follows 1 and 2, or what they refuse
+unfoldable pub afterCaller : Made GdsRoundingPolicy → Float → List ℕ → Result Structure
+afterCaller (refused r) d sheet = stopped r 0
+afterCaller (made policy vs) d sheet = check (leb (length sheet) maxSheetLength) R.SheetSize (writeSheet policy d sheet)
 
-unfoldable pub measureCell : ℕ → Float → List ℕ → Result Structure
-measureCell policy d sheet = measureWith (callerPolicy policy d) d sheet
+unfoldable pub cellStructure : ℕ → Float → List ℕ → Result Structure
+cellStructure policy d sheet = afterCaller (callerPolicy policy d) d sheet
 
 -- ---- writing: "Caller, last: 21 output too short; 22 report too short."
 
@@ -110,15 +111,11 @@ fitting out report (written s es) =
     (written s es))
 
 unfoldable pub writeCell : ℕ → Float → List ℕ → ℕ → ℕ → Result Structure
-writeCell policy d sheet out report = fitting out report (measureCell policy d sheet)
+writeCell policy d sheet out report = fitting out report (cellStructure policy d sheet)
 
 -- ---- the two buffers afterwards
 
--- "Bytes after the structure and the entries stay."
-abbrev pub over : List ℕ → List ℕ → List ℕ
-over bytes before = bytes ++ drop (length bytes) before
-
--- where refused, "both buffers stay"
+-- "Bytes after the structure and the entries stay."; where refused, "both buffers stay"
 abbrev pub outAfter : Result Structure → List ℕ → List ℕ
 outAfter (stopped r k) before = before
 outAfter (written s es) before = over (structureBytes s) before

@@ -1,4 +1,4 @@
--- Demand 3: a written structure, read by the manual's grammar, draws its sheet's cell (document 01, "What a structure draws"). One claim about the whole structure and its sheet.
+-- What it is that bytes draw a sheet's cell, read by the manual's grammar (document 01, "What a structure draws"; the bounds are demand 3's own). It knows nothing of a writer.
 -- `scaled x` is the whole number x * 2 ^ 1074 of a double. Bounds are stated over these, multiplied out by d and 2 ^ 22. Assumes nothing.
 use mathlib.Core.Path.{_≡_}
 use mathlib.Core.Bool.{Bool}
@@ -6,9 +6,8 @@ use mathlib.Core.Option.{Option, none, some}
 use mathlib.Core.List.{List, [], _∷_}
 use Prim.Native.Nat.{ℕ, _+_, _*_, _<_}
 use lib.Dec.{T}
-use lib.ListN.{length, take}
 use lib.IntN.{ℤ, pos, _+ℤ_, _*ℤ_}
-use lib.Ieee.{Float, binary64, fits}
+use lib.Ieee.{Float}
 use lib.Ieee.Scale.{finite}
 use Rattle.big_endian.specs.Big.{Bytes}
 use Rattle.binary64.specs.Value.{scaled}
@@ -25,9 +24,6 @@ use Rattle.stream.specs.Strings.{trimmed}
 use Rattle.stream.specs.Structure as D
 use Rattle.stream.specs.Drawn.{Transform, Worth, Drawn, drawnOf, instanceAt}
 use Rattle.stream.specs.Read.{structureOf}
-use Rattle.cell.specs.declared.Answer.the-variants as A
-use Rattle.cell.specs.Cell.{writeCell, outAfter}
-use Rattle.cell.specs.Answer.{answerOf}
 
 -- ---- "as many and in the same order"; "absent alike"
 
@@ -67,8 +63,8 @@ pub record AlikeProperty (p : S.Property) (q : D.Property) : Type 0 where
 -- reflection equal; magnification and degrees finite, and numerically equal
 pub record AlikeTransform (reflection : Bool) (magnification degrees : Float) (t : Transform) : Type 0 where
   pub reflected : reflection ≡ t .reflection
-  pub scale : T (finite magnification)
-  pub angle : T (finite degrees)
+  pub magnificationFinite : T (finite magnification)
+  pub degreesFinite : T (finite degrees)
   pub magnified : scaled magnification ≡ t .magnification
   pub rotated : scaled degrees ≡ t .degrees
 
@@ -81,9 +77,9 @@ turnedAt e s = turned (e .sine) (e .cosine) (spacingAt s)
 -- On one axis, with the physical values po, pa and pb of origin and turned spacings: every instance is close to po + i * pa + j * pb.
 -- Instance (0, 0) is the origin, and the bound there is that of one conversion.
 pub record AlikeInstances (policy : GdsRoundingPolicy) (d : Float) (columns rows : ℕ) (po pa pb : Float) (o a b : ℤ) : Type 0 where
-  pub origin : T (finite po)
-  pub column : T (finite pa)
-  pub row : T (finite pb)
+  pub originFinite : T (finite po)
+  pub columnFinite : T (finite pa)
+  pub rowFinite : T (finite pb)
   pub instances : (i j : ℕ) → i < columns → j < rows
       → Close ((1 + i + j) * allowance policy) d (scaled po +ℤ pos i *ℤ scaled pa +ℤ pos j *ℤ scaled pb) (instanceAt o a b i j)
 
@@ -152,7 +148,7 @@ module _ (policy : GdsRoundingPolicy) (d : Float) where
     pub name : SameString (c .head .name) (s .name)
     pub elements : Each AlikeElement (c .elements) (s .elements)
 
--- ---- demand 3
+-- ---- bytes and a sheet
 
 -- The bytes, read alone, are a structure that draws the sheet's cell under the policy.
 pub record Draws (policy : ℕ) (d : Float) (sheet bytes : List ℕ) : Type 0 where
@@ -164,10 +160,3 @@ pub record Draws (policy : ℕ) (d : Float) (sheet bytes : List ℕ) : Type 0 wh
   pub structure : D.Structure
   pub reads : structureOf bytes ≡ some structure
   pub alike : Alike rounding d cell (drawnOf structure)
-
--- For every policy, unit, sheet of bytes and pair of buffers: where the answer is a structure of n bytes, the output's first n bytes draw the sheet's cell.
--- (Every f64 fits binary64, and every &[u8] is of bytes.)
-abbrev pub Demand3 : Type 0
-Demand3 = (policy : ℕ) (d : Float) (sheet out report : List ℕ) (n entries : ℕ) (greatest : Float) → T (fits binary64 d) → Bytes sheet
-    → answerOf (writeCell policy d sheet (length out) (length report)) ≡ A.Accepted n entries greatest
-    → Draws policy d sheet (take n (outAfter (writeCell policy d sheet (length out) (length report)) out))

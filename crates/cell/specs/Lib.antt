@@ -6,5 +6,7 @@ pub mod Write
 pub mod Cell
 pub mod Answer
 pub mod Order
+pub mod Agree
 pub mod Draws
+pub mod Demand3
 pub mod Edges

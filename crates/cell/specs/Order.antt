@@ -24,7 +24,7 @@ use Rattle.cell.specs.Limits.{maxSheetLength}
 use Rattle.cell.specs.Stamps.{stampsFit}
 use Rattle.cell.specs.Names.{isName}
 use Rattle.cell.specs.Write.{writeElement}
-use Rattle.cell.specs.Cell.{stopped, written, measureCell, structureBytes, entryLength, writeCell}
+use Rattle.cell.specs.Cell.{stopped, written, cellStructure, structureBytes, entryLength, writeCell}
 
 -- a block that holds an element which none of its checks refuses
 pub record Accepted (policy : GdsRoundingPolicy) (d : Float) (b : List ℕ) : Type 0 where
@@ -78,8 +78,8 @@ module _ (policy : ℕ) (d : Float) (sheet : List ℕ) where
     blockRefused : (b : List ℕ) (k : ℕ) (at : Reached b k) (e : Element) (r : Refusal) → elementOf b ≡ some e
         → writeElement (at .headed .called .rounding) d e ≡ refused r → First out report r k
     -- 21, 22: "Caller, last"
-    outputTooShort : (s : Structure) (es : List Entry) → measureCell policy d sheet ≡ written s es → out < length (structureBytes s) → First out report R.OutputShort 0
-    reportTooShort : (s : Structure) (es : List Entry) → measureCell policy d sheet ≡ written s es → length (structureBytes s) ≤ out
+    outputTooShort : (s : Structure) (es : List Entry) → cellStructure policy d sheet ≡ written s es → out < length (structureBytes s) → First out report R.OutputShort 0
+    reportTooShort : (s : Structure) (es : List Entry) → cellStructure policy d sheet ≡ written s es → length (structureBytes s) ≤ out
         → report < entryLength * length es → First out report R.ReportShort 0
 
 -- The answer is a refusal exactly where that is the first in the order: so it is one refusal, the first, or a structure.

@@ -1,5 +1,6 @@
--- How near a database value is to a physical value (document 01, "What a structure draws"). `scaled x` is the whole number x * 2 ^ 1074 of a double x;
--- "the bounds of demand 3 are stated over them, multiplied out by d and 2^22". Assumes nothing.
+-- How near a database value is to a physical value. The bounds are demand 3's own: "within e units of its physical value divided by the exact unit: e is 1/2 + 2^-22 for
+-- nearest, 1 + 2^-22 for floor and ceiling, 2^-20 for strict". `scaled x` is the whole number x * 2 ^ 1074 of a double x; "the bounds of demand 3 are stated over them,
+-- multiplied out by d and 2^22" (document 01, "Eight-byte reals"). Assumes nothing.
 use Prim.Native.Nat.{ℕ, _+_, _*_, _^_, _≤_}
 use lib.IntN.{ℤ, natAbs, _-ℤ_, _*ℤ_}
 use lib.Ieee.{Float}

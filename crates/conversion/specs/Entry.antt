@@ -56,10 +56,10 @@ abbrev pub takesAll : Entry → List Deviation → Entry
 takesAll e [] = e
 takesAll e (v ∷ vs) = takesAll (takes e v) vs
 
--- "At most one entry stands for an element": the entry of the deviations of the element i of kind k
+-- "At most one entry stands for an element": the entry of the deviations of the element of index i, with its kind
 unfoldable pub entryOf : ℕ → ℕ → List Deviation → List Entry
-entryOf i k [] = []
-entryOf i k (v ∷ vs) = takesAll (firstEntry i k v) vs ∷ []
+entryOf i kind [] = []
+entryOf i kind (v ∷ vs) = takesAll (firstEntry i kind v) vs ∷ []
 
 -- "33 bytes: index 4, element kind 1, field 1, axis 1, point place 2 (else 0), affected count 4, p 8, q 4, error 8"; the first 13 of them
 abbrev pub placeBytes : Entry → List ℕ

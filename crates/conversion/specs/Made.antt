@@ -1,4 +1,5 @@
--- What a step of writing gives: the first refusal, or a value with the deviations met on the way, in order.
+-- What a step of writing gives: the first refusal, or a value with the deviations met on the way, in order
+-- (document 01, "Who can cause which refusal": "in an element its function's order in mod.rs"; "Result three").
 -- Steps are put together by `do`, as `?` puts them together in write/mod.rs. Assumes nothing.
 use mathlib.Core.Bool.{Bool, true, false}
 use mathlib.Core.List.{List, [], _++_}

@@ -1,13 +1,11 @@
--- An answer in numbers, and from it and the writer's promise those of the exported functions. Assumes nothing.
-use mathlib.Core.Path.{_≡_, refl, sym, _∙_, subst}
+-- An answer's values, by its cases. Assumes nothing.
+use mathlib.Core.Path.{_≡_, refl, sym, ap, subst}
 use mathlib.Core.List.{List}
 use Prim.Native.Nat.{ℕ}
-use native.Mathlib.Omega.{arith}
 use lib.IntN.{ℤ, pos}
 use lib.Ieee.{Float, binary64, ofBits}
 use Rattle.refusal.specs.declared.Refusal.{Refusal}
 use Rattle.refusal.specs.Number.{number}
-use Rattle.refusal.proofs.NumberLaws.{number-above}
 use Rattle.conversion.proofs.DeviationLaws.{zero-is}
 use Rattle.bounds.specs.declared.RangeAnswer.{RangeAnswer}
 use Rattle.bounds.specs.declared.RangeAnswer.the-variants as B
@@ -20,39 +18,25 @@ use Rattle.survey.specs.Answer as Survey
 use Rattle.survey.specs.Survey.{SurveysPitch}
 use Rattle.cell.specs.declared.Answer.{Answer}
 use Rattle.cell.specs.declared.Answer.the-variants as A
-use Rattle.cell.specs.Cell.{measureCell}
-use Rattle.cell.specs.Answer.{answerOf}
-use Rattle.write.specs.Writer.{WritesCell}
-use Rattle.exports.specs.Numbers.{numberOf, lengthOf, entriesOf, greatestOf, InNumbers}
-use Rattle.exports.specs.Exports.{MeasuresFor, WritesFor}
+use Rattle.cell.specs.Answer.{Values, valuesOf}
+use Rattle.write.specs.Writer.{MeasuresCell, WritesCell}
 
--- ---- each case of an answer
+-- ---- a cell: each case of the answer
 
-pub refused-in : {a : Answer} {x : Refusal} {r k : ℕ} → a ≡ A.Refused x k → r ≡ number x → InNumbers a r k 0 0 (ofBits binary64 0)
-refused-in e p = rw e (record { number = p; block = refl; length = refl; entries = refl; greatest = zero-is })
+pub refused-in : {a : Answer} {x : Refusal} {r k : ℕ} → a ≡ A.Refused x k → r ≡ number x
+    → _≡_ {A = Values} (record { number = r; block = k; length = 0; entries = 0; greatest = ofBits binary64 0 }) (valuesOf a)
+refused-in {x = x} {k = k} e p = rw (e, p) (ap (λ (g : Float). record { number = number x; block = k; length = 0; entries = 0; greatest = g }) zero-is)
 
-pub accepted-in : {a : Answer} {n k : ℕ} {g : Float} → a ≡ A.Accepted n k g → InNumbers a 0 0 n k g
-accepted-in e = rw e (record { number = refl; block = refl; length = refl; entries = refl; greatest = refl })
+pub accepted-in : {a : Answer} {n k : ℕ} {g : Float} → a ≡ A.Accepted n k g → _≡_ {A = Values} (record { number = 0; block = 0; length = n; entries = k; greatest = g }) (valuesOf a)
+accepted-in e = rw e refl
 
--- ---- the exported functions
+-- the writer's promises, of the values that were put in their places
+pub measures-in : {policy : ℕ} {d : Float} {sheet : List ℕ} {v w : Values} → MeasuresCell policy d sheet w → v ≡ w → MeasuresCell policy d sheet v
+measures-in {policy} {d} {sheet} m e = subst (λ (u : Values). MeasuresCell policy d sheet u) (sym e) m
 
--- where the number is 0, the answer is known from the others
-accepted : (a : Answer) → numberOf a ≡ 0 → a ≡ A.Accepted (lengthOf a) (entriesOf a) (greatestOf a)
-accepted (A.Refused r k) e = let h = number-above r in absurd (omega arith)
-accepted (A.Accepted n k g) e = refl
-
-pub measures-for : {policy r b n k : ℕ} {d g : Float} {sheet : List ℕ} {a : Answer} → a ≡ answerOf (measureCell policy d sheet) → InNumbers a r b n k g → MeasuresFor policy d sheet r b n k g
-measures-for e h = record { answer = rw e at h }
-
-pub writes-for : {policy r b n k : ℕ} {d g : Float} {sheet out report out′ report′ : List ℕ} {a : Answer}
-    → WritesCell policy d sheet out report out′ report′ a → InNumbers a r b n k g → WritesFor policy d sheet out report out′ report′ r b n k g
-writes-for {a = a} w h =
-    record {
-      answer = rw (w .answer) at h;
-      output = w .output;
-      entries = w .entries;
-      draws = λ z. rw (h .length) (w .draws _ _ _ (accepted a (sym (h .number) ∙ z)));
-    }
+pub writes-in : {policy : ℕ} {d : Float} {sheet out report out′ report′ : List ℕ} {v w : Values} → WritesCell policy d sheet out report out′ report′ w → v ≡ w
+    → WritesCell policy d sheet out report out′ report′ v
+writes-in {policy} {d} {sheet} {out} {report} {out′} {report′} m e = subst (λ (u : Values). WritesCell policy d sheet out report out′ report′ u) (sym e) m
 
 -- ---- lengths within bounds: each case of the answer
 

@@ -1,8 +1,9 @@
 // The cell writer, lengths within bounds and the pitch survey, for programs in C, Rust and other languages: exports/ has the header and examples.
 // The slices stand first and the numbers last, so that a slice's address and length are two arguments of C side by side, in registers or on the stack.
 // Every place that is lent for an answer is written, also in a refusal.
-ghost use Rattle.exports.specs.Numbers.{InNumbers};
-ghost use Rattle.exports.specs.Exports.{MeasuresFor, WritesFor};
+ghost use mathlib.Core.Path.{_≡_};
+ghost use Rattle.cell.specs.Answer.{Values, valuesOf};
+ghost use Rattle.write.specs.Writer.{MeasuresCell, WritesCell};
 ghost use Rattle.bounds.specs.Bounds.{ConvertsBounds};
 ghost use Rattle.survey.specs.Survey.{SurveysPitch};
 use bounds::RangeAnswer;
@@ -17,7 +18,7 @@ fn answer_in(
     entries: &mut usize,
     greatest: &mut f64,
 ) -> u8
-    ensures { λ r. ⌜ InNumbers a r (now (block .exit)) (now (length .exit)) (now (entries .exit)) (now (greatest .exit)) ⌝ }
+    ensures { λ r. ⌜ _≡_ {A = Values} (record { number = r; block = now (block .exit); length = now (length .exit); entries = now (entries .exit); greatest = now (greatest .exit) }) (valuesOf a) ⌝ }
 {
     match a {
         Answer::Refused { refusal, block: of } => {
@@ -52,7 +53,7 @@ pub extern "C" fn ravenvanity_measure_cell(
     policy: u8,
     d: f64,
 ) -> u8
-    ensures { λ r. ⌜ MeasuresFor policy d (now (sheet .entry)) r (now (block .exit)) (now (length .exit)) (now (entries .exit)) (now (greatest .exit)) ⌝ }
+    ensures { λ r. ⌜ MeasuresCell policy d (now (sheet .entry)) (record { number = r; block = now (block .exit); length = now (length .exit); entries = now (entries .exit); greatest = now (greatest .exit) }) ⌝ }
 {
     let a = write::measure_cell(policy, d, sheet);
     answer_in(a, block, length, entries, greatest)
@@ -71,7 +72,7 @@ pub extern "C" fn ravenvanity_write_cell(
     policy: u8,
     d: f64,
 ) -> u8
-    ensures { λ r. ⌜ WritesFor policy d (now (sheet .entry)) (now (out .entry)) (now (report .entry)) (now (out .exit)) (now (report .exit)) r (now (block .exit)) (now (length .exit)) (now (entries .exit)) (now (greatest .exit)) ⌝ }
+    ensures { λ r. ⌜ WritesCell policy d (now (sheet .entry)) (now (out .entry)) (now (report .entry)) (now (out .exit)) (now (report .exit)) (record { number = r; block = now (block .exit); length = now (length .exit); entries = now (entries .exit); greatest = now (greatest .exit) }) ⌝ }
 {
     let a = write::write_cell(policy, d, sheet, out, report);
     answer_in(a, block, length, entries, greatest)

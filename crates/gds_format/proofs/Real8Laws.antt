@@ -20,8 +20,8 @@ use Rattle.binary64.proofs.Signed.{scaled-abs, scaled-zero}
 use Rattle.gds_format.specs.declared.Encoding.{Encoding}
 use Rattle.gds_format.specs.declared.Encoding.the-variants.{Refused, Encoded}
 use Rattle.gds_format.specs.declared.GdsReal8Error.the-variants.{NonFinite, MagnitudeTooSmall, MagnitudeTooLarge}
-use Rattle.gds_format.specs.Real8.{real8Value, minMagnitude, maxMagnitude, pattern, encoded, encodeMagnitude, encoding, bytesOfEncoding, real8}
-use Rattle.gds_format.specs.Faithful.{Normalized, Encodable, Zero, OutOfLimits, Faithful, EncoderFaithful}
+use Rattle.gds_format.specs.Real8.{real8Value, minMagnitude, maxMagnitude, pattern, encoded, encodeMagnitude, encoding, valuesOf, real8}
+use Rattle.gds_format.specs.Faithful.{Normalized, Encodable, Zero, OutOfLimits, Faithful, EncodesReal, EncoderFaithful}
 use Rattle.gds_format.proofs.Pattern.{double-between, pattern-worth, pattern-normalized}
 use Rattle.gds_format.proofs.Unique.{normalized-least, normalized-most}
 
@@ -80,10 +80,10 @@ unfolding real8Value
 zero-value = refl
 
 pub real8-finite : (x : Float) (b : List ℕ) → real8 x ≡ some b → T (finite x)
-unfolding real8 bytesOfEncoding
+unfolding real8
 real8-finite x b = go (encoding x) (answer x)
   where
-    go : (o : Encoding) → Answer x o → bytesOfEncoding o ≡ some b → T (finite x)
+    go : (o : Encoding) → Answer x o → valuesOf o .bytes ≡ some b → T (finite x)
     go _ (notFinite n) e = none-some e
     go _ (zeros f z) e = f
     go _ (tooSmall f z l) e = f
@@ -91,10 +91,10 @@ real8-finite x b = go (encoding x) (answer x)
     go _ (tooLarge f h) e = f
 
 real8-eight : (x : Float) (b : List ℕ) → real8 x ≡ some b → length b ≡ 8
-unfolding real8 bytesOfEncoding
+unfolding real8
 real8-eight x b = go (encoding x)
   where
-    go : (o : Encoding) → bytesOfEncoding o ≡ some b → length b ≡ 8
+    go : (o : Encoding) → valuesOf o .bytes ≡ some b → length b ≡ 8
     go (Refused r) e = none-some e
     go (Encoded r) e = ap length (sym (some-back e)) ∙ length-bytesOf 8 (r .pattern)
 
@@ -107,10 +107,10 @@ module _ (x : Float) (F : T (fits binary64 x)) where
   between-normalized f h k = let d = double-between x F f h k in pattern-normalized (sizeOf x) (d .digits) (d .power) (d .between) (negative x)
 
   value : (b : List ℕ) → real8 x ≡ some b → real8Value b ≡ scaled x
-  unfolding real8 bytesOfEncoding
+  unfolding real8
   value b = go (encoding x) (answer x)
     where
-      go : (o : Encoding) → Answer x o → bytesOfEncoding o ≡ some b → real8Value b ≡ scaled x
+      go : (o : Encoding) → Answer x o → valuesOf o .bytes ≡ some b → real8Value b ≡ scaled x
       go _ (notFinite n) e = none-some e
       go _ (zeros f z) e = ap real8Value (sym (some-back e)) ∙ zero-value ∙ sym (scaled-zero x z)
       go _ (tooSmall f z l) e = none-some e
@@ -118,13 +118,13 @@ module _ (x : Float) (F : T (fits binary64 x)) where
       go _ (tooLarge f h) e = none-some e
 
   zero-bytes : T (finite x) → Zero x → real8 x ≡ some (bytesOf 8 0)
-  unfolding real8 bytesOfEncoding
+  unfolding real8
   zero-bytes f z = go (encoding x) (answer x)
     where
       none-left : sizeOf x ≡ 0
       none-left = sym (scaled-abs x) ∙ ap natAbs z
 
-      go : (o : Encoding) → Answer x o → bytesOfEncoding o ≡ some (bytesOf 8 0)
+      go : (o : Encoding) → Answer x o → valuesOf o .bytes ≡ some (bytesOf 8 0)
       go _ (notFinite n) = absurd (T-not (finite x) n f)
       go _ (zeros g e) = refl
       go _ (tooSmall g n l) = absurd (n none-left)
@@ -132,10 +132,10 @@ module _ (x : Float) (F : T (fits binary64 x)) where
       go _ (tooLarge g h) = absurd (lt-irrefl 0 (lt-of-lt-of-le (pow-pos 1326) (subst (λ (n : ℕ). maxMagnitude ≤ n) none-left h)))
 
   leading : (b : List ℕ) → real8 x ≡ some b → (Zero x → ⊥) → Normalized b
-  unfolding real8 bytesOfEncoding
+  unfolding real8
   leading b e z = go (encoding x) (answer x) e
     where
-      go : (o : Encoding) → Answer x o → bytesOfEncoding o ≡ some b → Normalized b
+      go : (o : Encoding) → Answer x o → valuesOf o .bytes ≡ some b → Normalized b
       go _ (notFinite n) e = none-some e
       go _ (zeros f n) e = absurd (z (scaled-zero x n))
       go _ (tooSmall f n l) e = none-some e
@@ -145,10 +145,10 @@ module _ (x : Float) (F : T (fits binary64 x)) where
   -- ---- what is refused
 
   outside : T (finite x) → real8 x ≡ none → (sizeOf x ≡ 0 → ⊥) × OutOfLimits x
-  unfolding real8 bytesOfEncoding
+  unfolding real8
   outside f = go (encoding x) (answer x)
     where
-      go : (o : Encoding) → Answer x o → bytesOfEncoding o ≡ none → (sizeOf x ≡ 0 → ⊥) × OutOfLimits x
+      go : (o : Encoding) → Answer x o → valuesOf o .bytes ≡ none → (sizeOf x ≡ 0 → ⊥) × OutOfLimits x
       go _ (notFinite n) e = absurd (T-not (finite x) n f)
       go _ (zeros g n) e = none-some (sym e)
       go _ (tooSmall g n l) e = (n, inl l)
@@ -162,10 +162,10 @@ module _ (x : Float) (F : T (fits binary64 x)) where
 
   -- what is refused wherever it is not accepted
   refused-unless : (Zero x → ⊥) → (T (finite x) → minMagnitude ≤ sizeOf x → sizeOf x < maxMagnitude → ⊥) → real8 x ≡ none
-  unfolding real8 bytesOfEncoding
+  unfolding real8
   refused-unless z n = go (encoding x) (answer x)
     where
-      go : (o : Encoding) → Answer x o → bytesOfEncoding o ≡ none
+      go : (o : Encoding) → Answer x o → valuesOf o .bytes ≡ none
       go _ (notFinite m) = refl
       go _ (zeros f e) = absurd (z (scaled-zero x e))
       go _ (tooSmall f m l) = refl
@@ -189,6 +189,11 @@ module _ (x : Float) (F : T (fits binary64 x)) where
 
 pub faithful : EncoderFaithful
 faithful = faithful-to
+
+-- what is promised of an answer that the tests gave
+pub encodes : (x : Float) {r : Encoding} → T (fits binary64 x) → r ≡ encoding x → EncodesReal x (valuesOf r)
+unfolding real8
+encodes x F e = record { answer = ap valuesOf e; faithful = subst (λ (y : Encoding). Faithful x (valuesOf y .bytes)) (sym e) (faithful x F) }
 
 -- the bytes of a double are worth the double, and are eight
 pub real8-worth : (x : Float) (b : List ℕ) → T (fits binary64 x) → real8 x ≡ some b → (real8Value b ≡ scaled x) × (length b ≡ 8)

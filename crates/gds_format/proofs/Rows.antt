@@ -6,7 +6,7 @@ use Prim.Native.Nat.{ℕ}
 use lib.Ieee.{binary64, ofBits, size}
 use Rattle.big_endian.specs.Big.{bytesOf}
 use Rattle.binary64.specs.Value.{sizeOf, negative, floorDiv}
-use Rattle.gds_format.specs.Real8.{floorMod, encodeMagnitude, encoding, bytesOfEncoding, real8}
+use Rattle.gds_format.specs.Real8.{floorMod, encodeMagnitude, encoding, Values, valuesOf, real8}
 
 -- a double by its bits, and the pattern of its eight bytes, or none where it is refused
 pub record Row : Type 0 where
@@ -37,5 +37,22 @@ expectations [] = []
 expectations (r ∷ rs) = expectedBytes (r .expected) ∷ expectations rs
 
 pub rows-hold : answers rows ≡ expectations rows
-unfolding rows answers expectations real8 bytesOfEncoding encoding encodeMagnitude floorMod floorDiv sizeOf negative ofBits size
+unfolding rows answers expectations real8 encoding encodeMagnitude floorMod floorDiv sizeOf negative ofBits size
 rows-hold = refl
+
+-- ---- numbers: each of the three refusals is 14, and what is encoded has 0
+
+-- 1; infinity, 2 ^ -261, 2 ^ 252
+pub numbers : List ℕ
+numbers = 0x3FF0000000000000 ∷ 0x7FF0000000000000 ∷ 0x2FA0000000000000 ∷ 0x4FB0000000000000 ∷ []
+
+pub values : List ℕ → List Values
+values [] = []
+values (b ∷ bs) = valuesOf (encoding (ofBits binary64 b)) ∷ values bs
+
+pub refusal : Values
+refusal = record { number = 14; bytes = none }
+
+pub numbers-hold : values numbers ≡ record { number = 0; bytes = some (bytesOf 8 0x4110000000000000) } ∷ refusal ∷ refusal ∷ refusal ∷ []
+unfolding numbers values refusal encoding encodeMagnitude floorMod floorDiv sizeOf negative ofBits size
+numbers-hold = refl

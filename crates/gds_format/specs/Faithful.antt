@@ -12,7 +12,7 @@ use lib.Ieee.{Float, binary64, fits}
 use lib.Ieee.Scale.{finite}
 use Rattle.big_endian.specs.Big.{Bytes, bytesOf}
 use Rattle.binary64.specs.Value.{sizeOf, negative, scaled}
-use Rattle.gds_format.specs.Real8.{real8Value, minMagnitude, maxMagnitude, real8}
+use Rattle.gds_format.specs.Real8.{real8Value, minMagnitude, maxMagnitude, encoding, Values, valuesOf, real8}
 use Rattle.gds_format.specs.Decode.{doubleOf}
 
 -- the first of the fourteen hex digits of the fraction
@@ -78,6 +78,11 @@ pub record FaithfulDecoding (b : List ℕ) (answer : Option Float) : Type 0 wher
   pub unread : answer ≡ none → (x : Float) → T (fits binary64 x) → T (finite x) → Equals b x → ⊥
 
 -- ---- the claims
+
+-- What `Real8::encode` promises of its answer's values: they are the definition's, and the bytes are faithful to x.
+pub record EncodesReal (x : Float) (v : Values) : Type 0 where
+  pub answer : v ≡ valuesOf (encoding x)
+  pub faithful : Faithful x (v .bytes)
 
 -- The encoder is faithful to every double.
 abbrev pub EncoderFaithful : Type 0

@@ -11,6 +11,8 @@ use lib.Ieee.{Float, size}
 use lib.Ieee.Scale.{finite}
 use Rattle.big_endian.specs.Big.{number, bytesOf}
 use Rattle.binary64.specs.Value.{sizeOf, negative, signed, floorDiv}
+use Rattle.refusal.specs.declared.Refusal.the-variants as the
+use Rattle.refusal.specs.Number as R
 use Rattle.gds_format.specs.declared.Encoding.{Encoding}
 use Rattle.gds_format.specs.declared.Encoding.the-variants.{Refused, Encoded}
 use Rattle.gds_format.specs.declared.GdsReal8Error.the-variants.{NonFinite, MagnitudeTooSmall, MagnitudeTooLarge}
@@ -73,10 +75,14 @@ encodeMagnitude s n =
 unfoldable pub encoding : Float → Encoding
 encoding x = cond (finite x) (encodeMagnitude (negative x) (sizeOf x)) (Refused NonFinite)
 
--- The eight bytes of an answer; none where it is a refusal, which for each of the three reasons is number 14 of document 01.
-unfoldable pub bytesOfEncoding : Encoding → Option (List ℕ)
-bytesOfEncoding (Refused e) = none
-bytesOfEncoding (Encoded r) = some (bytesOf 8 (r .pattern))
+-- In numbers (document 01, its last paragraph, "Where an answer is an enum"): the refusal's number, 14 for each of the three reasons, or 0; and the eight bytes, none where refused.
+pub record Values : Type 0 where
+  pub number : ℕ
+  pub bytes : Option (List ℕ)
+
+abbrev pub valuesOf : Encoding → Values
+valuesOf (Refused e) = record { number = R.number the.Real; bytes = none }
+valuesOf (Encoded r) = record { number = 0; bytes = some (bytesOf 8 (r .pattern)) }
 
 unfoldable pub real8 : Float → Option (List ℕ)
-real8 x = bytesOfEncoding (encoding x)
+real8 x = valuesOf (encoding x) .bytes

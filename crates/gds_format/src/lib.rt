@@ -6,7 +6,8 @@ ghost use lib.Dec.{T, ltb};
 ghost use lib.IntN.{pos, _-ℤ_};
 ghost use lib.Ieee.Scale.{finite};
 ghost use Rattle.binary64.specs.Value.{sizeOf, negative, floorDiv};
-ghost use Rattle.gds_format.specs.Real8.{minMagnitude, maxMagnitude, floorMod, exponentBits, pattern, encoding};
+ghost use Rattle.gds_format.specs.Real8.{minMagnitude, maxMagnitude, floorMod, exponentBits, pattern, valuesOf};
+ghost use Rattle.gds_format.specs.Faithful.{EncodesReal};
 
 pub enum GdsReal8Error {
     NonFinite,
@@ -33,7 +34,7 @@ impl Real8 {
 
     // The eight-byte real that equals x, in gdsr `eight_byte_real`.
     pub fn encode(x: f64) -> Encoding
-        ensures { λ r. ⌜ r ≡ encoding x ⌝ }
+        ensures { λ r. ⌜ EncodesReal x (valuesOf r) ⌝ }
     {
         if !binary64::is_finite(x) {
             return Encoding::Refused {

@@ -1,4 +1,5 @@
--- Reading a list from its front: what a part gives and what is left, or why it is refused. For bytes and for records. Assumes nothing.
+-- Reading a list from its front: what a part gives and what is left, or why it is refused. For the bytes of a sheet (document 01, "Input") and for the
+-- records of a structure (document 01, "What a structure draws"). Assumes nothing.
 use mathlib.Core.Bool.{Bool, true, false}
 use mathlib.Core.Option.{Option, none, some}
 use mathlib.Core.List.{List, [], _∷_}

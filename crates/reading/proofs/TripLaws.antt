@@ -39,7 +39,7 @@ use Rattle.stream.proofs.LenientLaws.{lenient}
 use Rattle.cell.specs.Limits.{maxSheetLength}
 use Rattle.cell.specs.Names.{isName}
 use Rattle.cell.specs.Stamps.{stampsFit}
-use Rattle.cell.specs.Cell.{Result, written, check, inFront, writeOne, writeBlock, writeBlocks, structureWith, writeHeaded, writeSheet, measureWith, measureCell, structureBytes}
+use Rattle.cell.specs.Cell.{Result, written, check, inFront, writeOne, writeBlock, writeBlocks, structureWith, writeHeaded, writeSheet, afterCaller, cellStructure, structureBytes}
 use Rattle.cell.proofs.ElementLaws.{element-written}
 use Rattle.reading.specs.Limits.{recordLimit, sheetLimits}
 use Rattle.reading.specs.Cell.{bodyRead, elementRead, elementsRead, cellRead}
@@ -129,8 +129,8 @@ module _ (s : Structure) (h : KeptStructure s) (short : length (cellSheet (cellR
       ∙ ap (structureWith (cellRead s .head)) elements-written
       ∙ ap (λ (n : List ℕ). written (record { stamps = s .stamps; name = n; elements = c .puts }) []) (padded-unpadded (s .name) (h .name .even .even))
 
-  measured : measureCell nearest one64 sheet ≡ written canonical []
-  unfolding measureCell measureWith callerPolicy policyOf M.need M._>>_ M._>>=_ writeSheet
+  measured : cellStructure nearest one64 sheet ≡ written canonical []
+  unfolding cellStructure afterCaller callerPolicy policyOf M.need M._>>_ M._>>=_ writeSheet
   measured =
       ap (λ (t : Bool). check t R.SheetSize (writeSheet Nearest one64 sheet)) (le-leb (length sheet) maxSheetLength short)
       ∙ ap (λ (t : Bool). check t R.Pairs (writeHeaded Nearest one64 sheet (headOf (blockOf sheet 0)))) (pairs-held (cellRead s) fine)

@@ -18,7 +18,7 @@ use Rattle.stream.specs.Structure.{Structure}
 use Rattle.stream.specs.Drawn.{drawnOf}
 use Rattle.stream.specs.Read.{Stop, refusalOf, readStructure, structureOf}
 use Rattle.cell.specs.Limits.{maxSheetLength}
-use Rattle.cell.specs.Cell.{written, measureCell, structureBytes}
+use Rattle.cell.specs.Cell.{written, cellStructure, structureBytes}
 use Rattle.reading.specs.Limits.{sheetLimits}
 use Rattle.reading.specs.Cell.{cellRead}
 
@@ -67,7 +67,7 @@ pub record Canonical (bytes sheet : List ℕ) : Type 0 where
   pub cell : cellOf sheet ≡ some (cellRead read)
   -- "Writing that sheet with d = 1 and nearest": accepted, with nothing to report
   pub canonical : Structure
-  pub writes : measureCell nearest one64 sheet ≡ written canonical []
+  pub writes : cellStructure nearest one64 sheet ≡ written canonical []
   pub draws : drawnOf canonical ≡ drawnOf read
   pub again : measureStructure (structureBytes canonical) ≡ made sheet
 

@@ -1,6 +1,9 @@
 -- The refusals' numbers. Assumes nothing.
-use Prim.Native.Nat.{_<_}
+use mathlib.Core.Path.{_≡_, refl, sym, ap, _∙_}
+use mathlib.Core.List.{List, [], _∷_}
+use Prim.Native.Nat.{ℕ, _<_}
 use native.Mathlib.Omega.{arith}
+use lib.ListN.{getD}
 use Rattle.refusal.specs.declared.Refusal.{Refusal}
 use Rattle.refusal.specs.declared.Refusal.the-variants as R
 use Rattle.refusal.specs.Number.{number}
@@ -34,3 +37,48 @@ number-above R.InexactReal = omega arith
 number-above R.ArrayCorners = omega arith
 number-above R.Bounds = omega arith
 number-above R.SurveyCount = omega arith
+
+-- ---- no two refusals have the same number
+
+-- by number; a number that no refusal has is taken by the first
+byNumber : List Refusal
+byNumber =
+    R.Policy ∷ R.Policy ∷ R.DatabaseUnit ∷ R.SheetSize ∷ R.Pairs ∷ R.Form
+    ∷ R.Stamp ∷ R.Name ∷ R.PointCount ∷ R.LayerOrType ∷ R.StringLength ∷ R.ColumnsOrRows
+    ∷ R.Spacing ∷ R.Magnification ∷ R.Real ∷ R.SineOrCosine ∷ R.SourceUnit ∷ R.NotFinite
+    ∷ R.OffGrid ∷ R.OutOfRange ∷ R.NotClosed ∷ R.OutputShort ∷ R.ReportShort ∷ R.Policy
+    ∷ R.Policy ∷ R.Policy ∷ R.Policy ∷ R.Policy ∷ R.NotStructure ∷ R.InexactReal
+    ∷ R.ArrayCorners ∷ R.Policy ∷ R.Bounds ∷ R.SurveyCount ∷ []
+
+numbered : (r : Refusal) → getD byNumber (number r) R.Policy ≡ r
+unfolding byNumber
+numbered R.Policy = refl
+numbered R.DatabaseUnit = refl
+numbered R.SheetSize = refl
+numbered R.Pairs = refl
+numbered R.Form = refl
+numbered R.Stamp = refl
+numbered R.Name = refl
+numbered R.PointCount = refl
+numbered R.LayerOrType = refl
+numbered R.StringLength = refl
+numbered R.ColumnsOrRows = refl
+numbered R.Spacing = refl
+numbered R.Magnification = refl
+numbered R.Real = refl
+numbered R.SineOrCosine = refl
+numbered R.SourceUnit = refl
+numbered R.NotFinite = refl
+numbered R.OffGrid = refl
+numbered R.OutOfRange = refl
+numbered R.NotClosed = refl
+numbered R.OutputShort = refl
+numbered R.ReportShort = refl
+numbered R.NotStructure = refl
+numbered R.InexactReal = refl
+numbered R.ArrayCorners = refl
+numbered R.Bounds = refl
+numbered R.SurveyCount = refl
+
+pub number-once : (q r : Refusal) → number q ≡ number r → q ≡ r
+number-once q r e = sym (numbered q) ∙ ap (λ (n : ℕ). getD byNumber n R.Policy) e ∙ numbered r

@@ -14,7 +14,7 @@ use Rattle.big_endian.proofs.BufferLaws.{nothing-at}
 use Rattle.binary64.specs.Value.{zero64, one64}
 use Rattle.gds_format.specs.declared.Encoding.{Encoding}
 use Rattle.gds_format.specs.declared.Encoding.the-variants as E
-use Rattle.gds_format.specs.Real8.{encoding, bytesOfEncoding, real8}
+use Rattle.gds_format.specs.Real8.{encoding, valuesOf, real8}
 use Rattle.conversion.specs.Made.{pure, need, _>>=_, _>>_}
 use Rattle.conversion.proofs.MadeLaws.{Yields, no-yield, made-yields, steps, checked}
 use Rattle.stream.specs.Structure as D
@@ -107,10 +107,10 @@ length-strans-of s =
 
 -- what the definition gives
 real-eight : (x : Float) (v : Option (List ℕ)) → Yields (writeReal x) v → Eight true v
-unfolding writeReal encodable real8 bytesOfEncoding _>>=_
+unfolding writeReal encodable real8 _>>=_
 real-eight x v y = go (encoding x) y
   where
-    go : (e : Encoding) → Yields (encodable (bytesOfEncoding e) >>= λ b. pure (some b)) v → Eight true v
+    go : (e : Encoding) → Yields (encodable (valuesOf e .bytes) >>= λ b. pure (some b)) v → Eight true v
     go (E.Refused r) y = no-yield y
     go (E.Encoded r) y = subst (Eight true) (made-yields y) (refl, refl)
 

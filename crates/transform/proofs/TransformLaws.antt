@@ -14,7 +14,8 @@ use Rattle.gds_format.specs.declared.Encoding.{Encoding}
 use Rattle.gds_format.specs.declared.Encoding.the-variants as E
 use Rattle.gds_format.specs.declared.GdsReal8Error.{GdsReal8Error}
 use Rattle.gds_format.specs.declared.Real8.{Real8}
-use Rattle.gds_format.specs.Real8.{encoding, bytesOfEncoding, real8}
+use Rattle.gds_format.specs.Real8.{Values, valuesOf, real8}
+use Rattle.gds_format.specs.Faithful.{EncodesReal}
 use Rattle.conversion.specs.Made.{Made, refused, pure, need, _>>=_, _>>_}
 use Rattle.conversion.proofs.MadeLaws.{need-on, need-off, pure-then, refused-then}
 use Rattle.stream.specs.Structure as D
@@ -23,20 +24,20 @@ use Rattle.transform.specs.Strans.{withAngle}
 
 -- ---- a real, by the encoder's answer
 
-module _ (x : Float) (r : Encoding) (h : r ≡ encoding x) where
-  abbrev real : Encoding → Made (Option (List ℕ))
-  real y = encodable (bytesOfEncoding y) >>= λ b. pure (some b)
+module _ (x : Float) (r : Encoding) (h : EncodesReal x (valuesOf r)) where
+  abbrev real : Values → Made (Option (List ℕ))
+  real v = encodable (v .bytes) >>= λ b. pure (some b)
 
-  on : (y : Encoding) → r ≡ y → real y ≡ writeReal x
+  on : (y : Encoding) → r ≡ y → real (valuesOf y) ≡ writeReal x
   unfolding writeReal real8
-  on y g = ap real (sym g ∙ h)
+  on y g = ap real (ap valuesOf (sym g) ∙ h .answer)
 
   pub real-refused : (e : GdsReal8Error) → r ≡ E.Refused e → refused R.Real ≡ writeReal x
-  unfolding encodable bytesOfEncoding _>>=_
+  unfolding encodable _>>=_
   real-refused e g = on (E.Refused e) g
 
   pub real-encoded : (v : Real8) → r ≡ E.Encoded v → pure (some (bytesOf 8 (v .pattern))) ≡ writeReal x
-  unfolding encodable bytesOfEncoding _>>=_
+  unfolding encodable _>>=_
   real-encoded v g = on (E.Encoded v) g
 
 -- ---- magnification and degrees

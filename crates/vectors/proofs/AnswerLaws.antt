@@ -11,8 +11,7 @@ use lib.Seq.{take-at}
 use lib.Ieee.{Float, binary64, toBits}
 use borrow.Author.Tests.{eqb-true, eq-eqb}
 use Rattle.big_endian.specs.Big.{bytesOf}
-use Rattle.big_endian.specs.Buffer as Buffer
-use Rattle.big_endian.specs.Buffer.{WroteAt}
+use Rattle.big_endian.specs.Buffer.{over, WroteAt}
 use Rattle.big_endian.proofs.BufferLaws.{from-zero}
 use Rattle.big_endian.proofs.BytesLaws.{bytes-bytesOf, number-once}
 use Rattle.big_endian.proofs.BigLaws.{length-bytesOf, number-bytesOf}
@@ -23,8 +22,9 @@ use Rattle.conversion.proofs.EntryLaws.{length-report}
 use Rattle.stream.specs.Structure.{Structure}
 use Rattle.cell.specs.declared.Answer.{Answer}
 use Rattle.cell.specs.declared.Answer.the-variants as A
-use Rattle.cell.specs.Cell.{Result, stopped, written, over, structureBytes, outAfter, reportAfter, writeCell}
-use Rattle.cell.specs.Answer.{answerOf}
+use Rattle.cell.specs.Cell.{Result, stopped, written, structureBytes, outAfter, reportAfter, writeCell}
+use Rattle.cell.specs.Answer.{answerOf, valuesOf}
+use Rattle.cell.proofs.AnswerLaws.{values-once}
 use Rattle.write.specs.Writer.{WritesCell}
 use Rattle.vectors.specs.Case.{refusedBytes, frontBytes, answerBytes, sameBytes}
 
@@ -51,11 +51,12 @@ front-length n k g = refl
 
 -- the run that was put at the start of a buffer
 first : (bs d : List ℕ) (n : ℕ) → n ≡ length bs → take n (over bs d) ≡ bs
+unfolding over
 first bs d n e = take-at bs (drop (length bs) d) n (sym e)
 
 -- what was put from the start of a text on is read back
 pub put-whole : {bs d text : List ℕ} {r : ℕ} → WroteAt bs d text 0 r → take r text ≡ bs
-unfolding Buffer.over
+unfolding over
 put-whole {bs} {d} {text} {r} w = let u = from-zero w in ap (take r) (u .out) ∙ first bs d r (u .count)
 
 by-result : (x : Result Structure) (r : Refusal) (k : ℕ) → A.Refused r k ≡ answerOf x → answerBytes x ≡ refusedBytes (number r) k
@@ -68,9 +69,9 @@ by-result (written s es) r k e = let z : _≡_ {A = ℕ} 0 1 = cc in absurd (ome
 
 -- what is put, by the answer that the writer gave for buffers of these lengths
 pub refused-bytes : {policy k m l : ℕ} {d : Float} {sheet out report out′ report′ : List ℕ} {x : Refusal} {r : Answer}
-    → WritesCell policy d sheet out report out′ report′ r → length out ≡ m → length report ≡ l → r ≡ A.Refused x k
+    → WritesCell policy d sheet out report out′ report′ (valuesOf r) → length out ≡ m → length report ≡ l → r ≡ A.Refused x k
     → refusedBytes (number x) k ≡ answerBytes (writeCell policy d sheet m l)
-refused-bytes {policy} {k} {d = d} {sheet = sheet} {x = x} w p q e = sym (by-result _ x k (sym e ∙ w .answer)) ∙ ap₂ (λ (m l : ℕ). answerBytes (writeCell policy d sheet m l)) p q
+refused-bytes {policy} {k} {d = d} {sheet = sheet} {x = x} {r = r} w p q e = sym (by-result _ x k (sym e ∙ values-once r _ (w .answer))) ∙ ap₂ (λ (m l : ℕ). answerBytes (writeCell policy d sheet m l)) p q
 
 module _ (n k : ℕ) (g : Float) (out report out′ report′ : List ℕ) where
   by-buffers : (x : Result Structure) → A.Accepted n k g ≡ answerOf x → out′ ≡ outAfter x out → report′ ≡ reportAfter x report
@@ -86,10 +87,10 @@ module _ (n k : ℕ) (g : Float) (out report out′ report′ : List ℕ) where
       cc
 
 pub accepted-bytes : {policy n k m l : ℕ} {d g : Float} {sheet out report out′ report′ : List ℕ} {r : Answer}
-    → WritesCell policy d sheet out report out′ report′ r → length out ≡ m → length report ≡ l → r ≡ A.Accepted n k g
+    → WritesCell policy d sheet out report out′ report′ (valuesOf r) → length out ≡ m → length report ≡ l → r ≡ A.Accepted n k g
     → frontBytes n k g ++ take n out′ ++ take (33 * k) report′ ≡ answerBytes (writeCell policy d sheet m l)
-accepted-bytes {policy} {n} {k} {d = d} {g = g} {sheet = sheet} {out = out} {report = report} {out′ = out′} {report′ = report′} w p q e =
-    sym (by-buffers n k g out report out′ report′ _ (sym e ∙ w .answer) (w .output) (w .entries)) ∙ ap₂ (λ (m l : ℕ). answerBytes (writeCell policy d sheet m l)) p q
+accepted-bytes {policy} {n} {k} {d = d} {g = g} {sheet = sheet} {out = out} {report = report} {out′ = out′} {report′ = report′} {r = r} w p q e =
+    sym (by-buffers n k g out report out′ report′ _ (sym e ∙ values-once r _ (w .answer)) (w .output) (w .entries)) ∙ ap₂ (λ (m l : ℕ). answerBytes (writeCell policy d sheet m l)) p q
 
 -- ---- an array of zeros; said of any length, as the length of a long one is too long to compute
 

@@ -31,13 +31,14 @@ use Rattle.cell.specs.declared.Answer.the-variants as A
 use Rattle.cell.specs.Limits.{maxSheetLength}
 use Rattle.cell.specs.Stamps.{stampsFit}
 use Rattle.cell.specs.Names.{isName}
-use Rattle.cell.specs.Cell.{Result, stopped, written, check, writeBlocks, structureFor, structureWith, writeHeaded, writeSheet, measureWith, measureCell, structureBytes, entryLength, fitting, writeCell, outAfter, reportAfter}
-use Rattle.cell.specs.Answer.{answerOf}
+use Rattle.cell.specs.Cell.{Result, stopped, written, check, writeBlocks, structureFor, structureWith, writeHeaded, writeSheet, afterCaller, cellStructure, structureBytes, entryLength, fitting, writeCell, outAfter, reportAfter}
+use Rattle.cell.specs.Answer.{answerOf, valuesOf}
 use Rattle.cell.specs.Draws.{Draws}
 use Rattle.cell.proofs.ResultLaws.{check-on, check-off}
 use Rattle.cell.proofs.DrawsLaws.{demand3}
+use Rattle.cell.proofs.AnswerLaws.{accepted, values-once}
 use Rattle.write.specs.Walk.{StructureFits, PutsStructure}
-use Rattle.write.specs.Writer.{defined, WritesCell}
+use Rattle.write.specs.Writer.{defined, MeasuresCell, WritesCell}
 use Rattle.write.proofs.PairLaws.{pairs-count, length-blocks}
 use Rattle.write.proofs.WalkLaws.{split}
 
@@ -110,11 +111,11 @@ pub record Passed (policy : ℕ) (d : Float) (sheet : List ℕ) (s : Structure) 
   pub named : policyOf policy ≡ some rounding
   pub writes : writeSheet rounding d sheet ≡ written s es
 
-passed : (policy : ℕ) (d : Float) (sheet : List ℕ) (s : Structure) (es : List Entry) → measureCell policy d sheet ≡ written s es → Passed policy d sheet s es
-unfolding measureCell measureWith
+passed : (policy : ℕ) (d : Float) (sheet : List ℕ) (s : Structure) (es : List Entry) → cellStructure policy d sheet ≡ written s es → Passed policy d sheet s es
+unfolding cellStructure afterCaller
 passed policy d sheet s es m = go (callerPolicy policy d) (caller policy d) m
   where
-    go : (m : Made GdsRoundingPolicy) → Caller policy d m → measureWith m d sheet ≡ written s es → Passed policy d sheet s es
+    go : (m : Made GdsRoundingPolicy) → Caller policy d m → afterCaller m d sheet ≡ written s es → Passed policy d sheet s es
     go m (unnamed e) w = let z : _≡_ {A = ℕ} 0 1 = cc in absurd (omega arith)
     go m (noUnit p e never) w = let z : _≡_ {A = ℕ} 0 1 = cc in absurd (omega arith)
     go m (passes p e u) w = record { rounding = p; named = e; writes = check-passed (leb (length sheet) maxSheetLength) _ _ w .1 }
@@ -123,23 +124,23 @@ passed policy d sheet s es m = go (callerPolicy policy d) (caller policy d) m
 pub record Measured (policy : ℕ) (d : Float) (sheet : List ℕ) (n c : ℕ) (g : Float) : Type 0 where
   pub structure : Structure
   pub entries : List Entry
-  pub is : measureCell policy d sheet ≡ written structure entries
+  pub is : cellStructure policy d sheet ≡ written structure entries
   pub bytes : n ≡ length (structureBytes structure)
   pub count : c ≡ length entries
   pub greatest : g ≡ greatestFrom zero64 entries
 
 module _ (policy : ℕ) (d : Float) (sheet : List ℕ) where
-  stopped-is : (r : Refusal) (k : ℕ) → A.Refused r k ≡ answerOf (measureCell policy d sheet) → measureCell policy d sheet ≡ stopped r k
-  stopped-is r k e = go (measureCell policy d sheet) e
+  stopped-is : (r : Refusal) (k : ℕ) → A.Refused r k ≡ answerOf (cellStructure policy d sheet) → cellStructure policy d sheet ≡ stopped r k
+  stopped-is r k e = go (cellStructure policy d sheet) e
     where
       go : (x : Result Structure) → A.Refused r k ≡ answerOf x → x ≡ stopped r k
       go (stopped q j) e = cc
       go (written s es) e = let z : _≡_ {A = ℕ} 0 1 = cc in absurd (omega arith)
 
-  pub measured : (a : Answer) {n c : ℕ} {g : Float} → a ≡ A.Accepted n c g → a ≡ answerOf (measureCell policy d sheet) → Measured policy d sheet n c g
-  measured a {n} {c} {g} i e = go (measureCell policy d sheet) refl (sym i ∙ e)
+  pub measured : (a : Answer) {n c : ℕ} {g : Float} → a ≡ A.Accepted n c g → MeasuresCell policy d sheet (valuesOf a) → Measured policy d sheet n c g
+  measured a {n} {c} {g} i m = go (cellStructure policy d sheet) refl (sym i ∙ values-once a _ (m .answer))
     where
-      go : (x : Result Structure) → measureCell policy d sheet ≡ x → A.Accepted n c g ≡ answerOf x → Measured policy d sheet n c g
+      go : (x : Result Structure) → cellStructure policy d sheet ≡ x → A.Accepted n c g ≡ answerOf x → Measured policy d sheet n c g
       go (stopped r k) f e = let z : _≡_ {A = ℕ} 0 1 = cc in absurd (omega arith)
       go (written s es) f e = record { structure = s; entries = es; is = f; bytes = cc; count = cc; greatest = cc }
 
@@ -173,23 +174,25 @@ module _ {policy : ℕ} {d : Float} {sheet : List ℕ} {n c : ℕ} {g : Float} (
 module _ {policy : ℕ} {d : Float} {sheet : List ℕ} (out report : List ℕ) (fd : fits binary64 d ≡ true) (all : Bytes sheet) where
   -- the answer and both buffers are the definition's, so the structure draws the sheet's cell
   writes : (r : Answer) (out′ report′ : List ℕ) (x : Result Structure) → defined policy d sheet out report ≡ x → r ≡ answerOf x → out′ ≡ outAfter x out → report′ ≡ reportAfter x report
-      → WritesCell policy d sheet out report out′ report′ r
+      → WritesCell policy d sheet out report out′ report′ (valuesOf r)
   writes r out′ report′ x e a o p =
       let answer : r ≡ answerOf (defined policy d sheet out report) = a ∙ ap answerOf (sym e) in
       let output : out′ ≡ outAfter (defined policy d sheet out report) out = o ∙ ap (λ (y : Result Structure). outAfter y out) (sym e) in
       record {
-        answer = answer;
+        answer = ap valuesOf answer;
         output = output;
         entries = p ∙ ap (λ (y : Result Structure). reportAfter y report) (sym e);
-        draws = λ n k g f. subst (λ (bs : List ℕ). Draws policy d sheet (take n bs)) (sym output) (demand3 policy d sheet out report n k g (subst T (sym fd) tt) all (sym answer ∙ f));
+        draws = λ z.
+            subst (λ (bs : List ℕ). Draws policy d sheet (take (valuesOf r .length) bs)) (sym output)
+            (demand3 policy d sheet out report (valuesOf r .length) (valuesOf r .entries) (valuesOf r .greatest) (subst T (sym fd) tt) all (sym answer ∙ accepted r z));
       }
 
-  refuses : (r : Refusal) (k : ℕ) → defined policy d sheet out report ≡ stopped r k → WritesCell policy d sheet out report out report (A.Refused r k)
+  refuses : (r : Refusal) (k : ℕ) → defined policy d sheet out report ≡ stopped r k → WritesCell policy d sheet out report out report (valuesOf (A.Refused r k))
   refuses r k e = writes (A.Refused r k) out report (stopped r k) e refl refl refl
 
-  pub cell-refused : (a : Answer) {r : Refusal} {k : ℕ} → a ≡ A.Refused r k → a ≡ answerOf (measureCell policy d sheet) → WritesCell policy d sheet out report out report (A.Refused r k)
+  pub cell-refused : (a : Answer) {r : Refusal} {k : ℕ} → a ≡ A.Refused r k → MeasuresCell policy d sheet (valuesOf a) → WritesCell policy d sheet out report out report (valuesOf (A.Refused r k))
   unfolding writeCell fitting
-  cell-refused a {r} {k} f e = refuses r k (ap (fitting (length out) (length report)) (stopped-is policy d sheet r k (sym f ∙ e)))
+  cell-refused a {r} {k} f m = refuses r k (ap (fitting (length out) (length report)) (stopped-is policy d sheet r k (sym f ∙ values-once a _ (m .answer))))
 
   module _ {n c : ℕ} {g : Float} (m : Measured policy d sheet n c g) where
     abbrev bytes : ℕ
@@ -198,7 +201,7 @@ module _ {policy : ℕ} {d : Float} {sheet : List ℕ} (out report : List ℕ) (
     abbrev size : ℕ
     size = entryLength * length (m .entries)
 
-    pub output-short : length out < n → WritesCell policy d sheet out report out report (A.Refused R.OutputShort 0)
+    pub output-short : length out < n → WritesCell policy d sheet out report out report (valuesOf (A.Refused R.OutputShort 0))
     unfolding writeCell fitting
     output-short l =
         let a = m .bytes in
@@ -212,13 +215,13 @@ module _ {policy : ℕ} {d : Float} {sheet : List ℕ} (out report : List ℕ) (
           let a = m .bytes in
           ap (fitting (length out) (length report)) (m .is) ∙ check-on (leb bytes (length out)) _ _ (le-leb bytes (length out) (omega arith))
 
-      pub report-short : length report < entryLength * c → WritesCell policy d sheet out report out report (A.Refused R.ReportShort 0)
+      pub report-short : length report < entryLength * c → WritesCell policy d sheet out report out report (valuesOf (A.Refused R.ReportShort 0))
       report-short l =
           let b = m .count in
           refuses R.ReportShort 0 (to-report ∙ check-off (leb size (length report)) _ _ (lt-leb size (length report) (omega arith)))
 
       pub cell-written : entryLength * c ≤ length report → {p : GdsRoundingPolicy} → policyOf policy ≡ some p → {out′ report′ : List ℕ} → PutsStructure p d sheet out report out′ report′
-          → WritesCell policy d sheet out report out′ report′ (A.Accepted n c g)
+          → WritesCell policy d sheet out report out′ report′ (valuesOf (A.Accepted n c g))
       unfolding B.over
       cell-written l e {out′} {report′} w =
           let b = m .count in

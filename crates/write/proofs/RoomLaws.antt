@@ -13,8 +13,9 @@ use Rattle.conversion.specs.declared.Entry.{Entry}
 use Rattle.stream.specs.Structure.{Structure}
 use Rattle.cell.specs.declared.Answer.{Answer}
 use Rattle.cell.specs.declared.Answer.the-variants as A
-use Rattle.cell.specs.Cell.{Result, stopped, written, check, structureBytes, entryLength, fitting, measureCell, writeCell}
-use Rattle.cell.specs.Answer.{answerOf}
+use Rattle.cell.specs.Cell.{Result, stopped, written, check, structureBytes, entryLength, fitting, cellStructure, writeCell}
+use Rattle.cell.specs.Answer.{answerOf, valuesOf}
+use Rattle.cell.proofs.AnswerLaws.{values-once}
 use Rattle.write.specs.Writer.{WritesCell}
 
 -- an output and a report of these lengths; an accepted length, entry count and greatest error
@@ -40,9 +41,9 @@ module _ (m l n k : ℕ) (g : Float) where
 
   pub accepted-room : (policy : ℕ) (d : Float) (sheet : List ℕ) → answerOf (writeCell policy d sheet m l) ≡ A.Accepted n k g → Room
   unfolding writeCell
-  accepted-room policy d sheet e = fitting-room (measureCell policy d sheet) e
+  accepted-room policy d sheet e = fitting-room (cellStructure policy d sheet) e
 
 -- the same of the writer's promise
 pub writes-room : {policy n k : ℕ} {d g : Float} {sheet out report out′ report′ : List ℕ} {r : Answer}
-    → WritesCell policy d sheet out report out′ report′ r → r ≡ A.Accepted n k g → (n ≤ length out) × (33 * k ≤ length report)
-writes-room {policy} {n} {k} {d} {g} {sheet} {out} {report} w e = accepted-room (length out) (length report) n k g policy d sheet (sym (w .answer) ∙ e)
+    → WritesCell policy d sheet out report out′ report′ (valuesOf r) → r ≡ A.Accepted n k g → (n ≤ length out) × (33 * k ≤ length report)
+writes-room {policy} {n} {k} {d} {g} {sheet} {out} {report} {r = r} w e = accepted-room (length out) (length report) n k g policy d sheet (sym (values-once r _ (w .answer)) ∙ e)

@@ -28,12 +28,13 @@ use Rattle.stream.specs.Record.{ENDSTR}
 use Rattle.stream.specs.Records.{emptyRecord, elementsBytes}
 use Rattle.stream.proofs.BytesLaws.{endBytes, structure-bytes}
 use Rattle.stream.proofs.BytesLaws as B
+use Rattle.cell.specs.declared.Answer.{Answer}
 use Rattle.cell.specs.declared.Answer.the-variants as A
 use Rattle.cell.specs.Limits.{maxSheetLength}
 use Rattle.cell.specs.Stamps.{stampsFit}
 use Rattle.cell.specs.Names.{isName}
-use Rattle.cell.specs.Cell.{Result, stopped, written, structureFor, structureWith, structureBytes, writeBlocks, writeHeaded, writeSheet, measureWith, measureCell}
-use Rattle.cell.specs.Answer.{answerOf}
+use Rattle.cell.specs.Cell.{Result, stopped, written, structureFor, structureWith, structureBytes, writeBlocks, writeHeaded, writeSheet, afterCaller, cellStructure}
+use Rattle.cell.specs.Answer.{answerOf, valuesOf}
 use Rattle.cell.proofs.ResultLaws.{check-on, check-off}
 use Rattle.records.proofs.RecordLaws.{length-record}
 use Rattle.write.specs.declared.HeadMeasured.{HeadMeasured}
@@ -41,6 +42,7 @@ use Rattle.write.specs.declared.HeadMeasured.the-variants as H
 use Rattle.write.specs.declared.Totals.{Totals}
 use Rattle.write.specs.declared.Totals.the-variants as T
 use Rattle.write.specs.Walk.{headBytes, headMeasured, totalsFrom}
+use Rattle.write.specs.Writer.{MeasuresCell}
 
 head-same : (h : Head) → B.headBytes (h .stamps) (padded (h .name)) ≡ headBytes h
 unfolding headBytes B.headBytes
@@ -130,19 +132,23 @@ module _ (policy : GdsRoundingPolicy) (d : Float) (s : List ℕ) where
 -- ---- the caller's checks: policy and database unit (v is their answer), size of the sheet
 
 module _ (n : ℕ) (d : Float) (s : List ℕ) (v : CallerPolicy) (f : callerOf v ≡ callerPolicy n d) where
-  pub caller-stop : (r : Refusal) → v ≡ Caller.Refused r → A.Refused r 0 ≡ answerOf (measureCell n d s)
-  unfolding measureCell measureWith
-  caller-stop r e = ap (λ (m : Made GdsRoundingPolicy). answerOf (measureWith m d s)) (sym (ap callerOf e) ∙ f)
+  pub caller-stop : (r : Refusal) → v ≡ Caller.Refused r → A.Refused r 0 ≡ answerOf (cellStructure n d s)
+  unfolding cellStructure afterCaller
+  caller-stop r e = ap (λ (m : Made GdsRoundingPolicy). answerOf (afterCaller m d s)) (sym (ap callerOf e) ∙ f)
 
   module _ (policy : GdsRoundingPolicy) (e : v ≡ Caller.With policy) where
-    called : measureWith (pure policy) d s ≡ measureCell n d s
-    unfolding measureCell
-    called = ap (λ (m : Made GdsRoundingPolicy). measureWith m d s) (sym (ap callerOf e) ∙ f)
+    called : afterCaller (pure policy) d s ≡ cellStructure n d s
+    unfolding cellStructure
+    called = ap (λ (m : Made GdsRoundingPolicy). afterCaller m d s) (sym (ap callerOf e) ∙ f)
 
-    pub size-stop : maxSheetLength < length s → A.Refused R.SheetSize 0 ≡ answerOf (measureCell n d s)
-    unfolding measureWith
+    pub size-stop : maxSheetLength < length s → A.Refused R.SheetSize 0 ≡ answerOf (cellStructure n d s)
+    unfolding afterCaller
     size-stop h = ap answerOf (sym (check-off (leb (length s) maxSheetLength) R.SheetSize _ (lt-leb (length s) maxSheetLength h)) ∙ called)
 
-    pub cell-is : length s ≤ maxSheetLength → answerOf (writeSheet policy d s) ≡ answerOf (measureCell n d s)
-    unfolding measureWith
+    pub cell-is : length s ≤ maxSheetLength → answerOf (writeSheet policy d s) ≡ answerOf (cellStructure n d s)
+    unfolding afterCaller
     cell-is h = ap answerOf (sym (check-on (leb (length s) maxSheetLength) R.SheetSize _ (le-leb (length s) maxSheetLength h)) ∙ called)
+
+-- its values are what is promised
+pub measures : {n : ℕ} {d : Float} {s : List ℕ} {a : Answer} → a ≡ answerOf (cellStructure n d s) → MeasuresCell n d s (valuesOf a)
+measures e = record { answer = ap valuesOf e }

@@ -21,10 +21,10 @@ ghost use Rattle.sheet.specs.Blocks.{pairsFit};
 ghost use Rattle.sheet.specs.Cell.{elementBlocks};
 ghost use Rattle.forms.specs.Place.{stringAt};
 ghost use Rattle.forms.specs.Forms.{headAt, HeadIn};
-ghost use Rattle.cell.specs.Cell.{writeBlocks, writeSheet, measureCell};
-ghost use Rattle.cell.specs.Answer.{answerOf};
+ghost use Rattle.cell.specs.Cell.{writeBlocks, writeSheet};
+ghost use Rattle.cell.specs.Answer.{answerOf, valuesOf};
 ghost use Rattle.write.specs.Walk.{headBytes, headMeasured, HeadSmall, totalsFrom, TotalsSmall, ElementsFit, PutsElements, StructureFits, PutsStructure};
-ghost use Rattle.write.specs.Writer.{WritesCell};
+ghost use Rattle.write.specs.Writer.{MeasuresCell, WritesCell};
 
 // The longest sheet, and the bytes of a report entry.
 const MAX_SHEET_LENGTH: usize = 16777216;
@@ -184,7 +184,7 @@ fn measure_sheet(policy: GdsRoundingPolicy, d: f64, sheet: &[u8]) -> Answer
 
 // The first refusal other than 21 and 22, or what writing will give: structure length, entry count and greatest error.
 pub fn measure_cell(policy: u8, d: f64, sheet: &[u8]) -> Answer
-    ensures { λ r. ⌜ r ≡ answerOf (measureCell policy d (now (sheet .entry))) ⌝ }
+    ensures { λ r. ⌜ MeasuresCell policy d (now (sheet .entry)) (valuesOf r) ⌝ }
 {
     match conversion::caller_policy(policy, d) {
         CallerPolicy::Refused { refusal } => Answer::Refused { refusal, block: 0 },
@@ -283,7 +283,7 @@ fn put_structure(policy: GdsRoundingPolicy, d: f64, sheet: &[u8], out: &mut [u8]
 
 // The structure and its report into the lent buffers, or one refusal, and then both are as before.
 pub fn write_cell(policy: u8, d: f64, sheet: &[u8], out: &mut [u8], report: &mut [u8]) -> Answer
-    ensures { λ r. ⌜ WritesCell policy d (now (sheet .entry)) (now (out .entry)) (now (report .entry)) (now (out .exit)) (now (report .exit)) r ⌝ }
+    ensures { λ r. ⌜ WritesCell policy d (now (sheet .entry)) (now (out .entry)) (now (report .entry)) (now (out .exit)) (now (report .exit)) (valuesOf r) ⌝ }
 {
     match measure_cell(policy, d, sheet) {
         Answer::Refused { refusal, block } => Answer::Refused { refusal, block },

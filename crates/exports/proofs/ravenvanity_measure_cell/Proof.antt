@@ -1,6 +1,6 @@
 -- `exports::ravenvanity_measure_cell` meets its contract. Assumes nothing.
 use borrow.Author.Needs.{needs}
-use Rattle.exports.proofs.ExportLaws.{measures-for}
+use Rattle.exports.proofs.ExportLaws.{measures-in}
 use Rattle.exports.proofs.ravenvanity_measure_cell.Statement.{statement}
 use Rattle.exports.proofs.ravenvanity_measure_cell.Tie as tie
 
@@ -11,7 +11,7 @@ answer-in-requires : tie.Need-answer-in-requires
 answer-in-requires c κs = search needs
 
 returns : tie.Need-returns
-returns c = measures-for (c .before .before .before .before .before .measure-cell .ensures) (c .answer-in .ensures)
+returns c = measures-in (c .before .before .before .before .before .measure-cell .ensures) (c .answer-in .ensures)
 
 pub ravenvanity-measure-cell-spec : {M : Type 1} → statement M
 ravenvanity-measure-cell-spec =

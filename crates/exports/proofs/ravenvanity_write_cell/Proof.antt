@@ -1,6 +1,6 @@
 -- `exports::ravenvanity_write_cell` meets its contract. Assumes nothing.
 use borrow.Author.Needs.{needs}
-use Rattle.exports.proofs.ExportLaws.{writes-for}
+use Rattle.exports.proofs.ExportLaws.{writes-in}
 use Rattle.exports.proofs.ravenvanity_write_cell.Statement.{statement}
 use Rattle.exports.proofs.ravenvanity_write_cell.Tie as tie
 
@@ -17,7 +17,7 @@ same-length-2 : tie.Need-same-length-2
 same-length-2 c = search needs
 
 returns : tie.Need-returns
-returns c = writes-for (c .before .before .before .before .before .before .before .before .before .write-cell .ensures) (c .answer-in .ensures)
+returns c = writes-in (c .before .before .before .before .before .before .before .before .before .write-cell .ensures) (c .answer-in .ensures)
 
 pub ravenvanity-write-cell-spec : {M : Type 1} → statement M
 ravenvanity-write-cell-spec =

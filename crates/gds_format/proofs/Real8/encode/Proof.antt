@@ -3,7 +3,7 @@ use mathlib.Core.Path.{_≡_, refl, sym, ap, _∙_, subst}
 use mathlib.Core.Bool.{Bool, true, false, not, cond}
 use Prim.Native.Nat.{ℕ}
 use lib.Dec.{T, ltb, eqb, ltb→lt, nltb→le}
-use lib.Ieee.{Float, binary64, ofBits, eq}
+use lib.Ieee.{Float, binary64, fits, ofBits, eq}
 use lib.Ieee.Scale.{finite}
 use borrow.Author.Needs.{needs}
 use Rattle.binary64.specs.Value.{sizeOf, negative}
@@ -11,7 +11,7 @@ use Rattle.gds_format.specs.declared.Encoding.the-variants.{Refused}
 use Rattle.gds_format.specs.declared.GdsReal8Error.the-variants.{MagnitudeTooLarge}
 use Rattle.gds_format.specs.Real8.{minMagnitude, maxMagnitude, pattern, encoded, encoding}
 use Rattle.gds_format.proofs.Magnitude.{zero-test}
-use Rattle.gds_format.proofs.Real8Laws.{encoding-is}
+use Rattle.gds_format.proofs.Real8Laws.{encoding-is, encodes}
 use Rattle.gds_format.proofs.Real8.encode.Statement.{statement}
 use Rattle.gds_format.proofs.Real8.encode.Tie as tie
 
@@ -27,7 +27,7 @@ is-finite-requires : tie.Need-is-finite-requires
 is-finite-requires c κs = search needs
 
 returns : tie.Need-returns
-returns c = encoding-is (c .before .before .args .x) false _ _ _ (sym (c .before .is-finite .ensures) ∙ not-true (c .before .is-finite .result) (c .if1 .taken)) refl refl refl
+returns c = encodes _ (subst T (sym (c .before .before .good .0 .1)) tt) (encoding-is (c .before .before .args .x) false _ _ _ (sym (c .before .is-finite .ensures) ∙ not-true (c .before .is-finite .result) (c .if1 .taken)) refl refl refl)
 
 -- after each test that failed: its answer, as the definition's
 
@@ -38,14 +38,17 @@ module _ (c : tie.Else1) where
   finite-is : finite x ≡ true
   finite-is = sym (c .before .is-finite .ensures) ∙ not-false (c .before .is-finite .result) (c .if1 .left)
 
+  fitting : T (fits binary64 x)
+  fitting = subst T (sym (c .before .before .good .0 .1)) tt
+
   held : T (finite x)
   held = subst T (sym finite-is) tt
 
   zero-is : eq x (ofBits binary64 0) ≡ eqb (sizeOf x) 0
-  zero-is = zero-test x (subst T (sym (c .before .before .good .0 .1)) tt) held
+  zero-is = zero-test x fitting held
 
 returns-2 : tie.Need-returns-2
-returns-2 c = encoding-is (x (c .before)) true true _ _ (finite-is (c .before)) (sym (zero-is (c .before)) ∙ c .if2 .taken) refl refl
+returns-2 c = encodes _ (fitting (c .before)) (encoding-is (x (c .before)) true true _ _ (finite-is (c .before)) (sym (zero-is (c .before)) ∙ c .if2 .taken) refl refl)
 
 magnitude-below-requires : tie.Need-magnitude-below-requires
 unfolding ofBits negative
@@ -62,7 +65,7 @@ some-is c = sym (zero-is (c .before)) ∙ c .if2 .left
 returns-3 : tie.Need-returns-3
 returns-3 c =
     let e = c .before .before .before in
-    encoding-is (x e) true false true _ (finite-is e) (some-is (c .before .before)) (small-is (c .before) ∙ c .if3 .taken) refl
+    encodes _ (fitting e) (encoding-is (x e) true false true _ (finite-is e) (some-is (c .before .before)) (small-is (c .before) ∙ c .if3 .taken) refl)
 
 magnitude-below-requires-2 : tie.Need-magnitude-below-requires-2
 unfolding ofBits negative
@@ -97,10 +100,10 @@ normalized-pattern-requires c κs =
     )
 
 returns-4 : tie.Need-returns-4
-returns-4 c = ap encoded (c .normalized-pattern .ensures) ∙ last (c .before .before) true (c .before .if4 .taken)
+returns-4 c = encodes _ (fitting (e (c .before .before))) (ap encoded (c .normalized-pattern .ensures) ∙ last (c .before .before) true (c .before .if4 .taken))
 
 returns-5 : tie.Need-returns-5
-returns-5 c = last (c .before) false (c .if4 .left)
+returns-5 c = encodes _ (fitting (e (c .before))) (last (c .before) false (c .if4 .left))
 
 pub encode-spec : {M : Type 1} → statement M
 encode-spec =

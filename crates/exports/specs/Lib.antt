@@ -1,3 +1,0 @@
--- An answer in numbers, and what the exported functions promise.
-pub mod Numbers
-pub mod Exports
