@@ -11,9 +11,9 @@ use Rattle.conversion.specs.declared.Entry.{Entry}
 
 -- an element's first deviation, as its entry
 unfoldable pub firstEntry : ℕ → ℕ → Deviation → Entry
-firstEntry i k v = record {
+firstEntry i kind v = record {
   index = i;
-  kind = k;
+  kind = kind;
   field = v .field;
   axis = v .axis;
   place = v .place;
