@@ -3,7 +3,8 @@
 
 From the files in which the claims stand it works out which files of definitions and which types of the code they reach, by the `use` lines,
 and compares these with the page's reading list: the same files and types, each after all that it rests on, each with the paragraph that it is from.
-It also looks that a function's contract names its claim, and that a law of the claim's own type stands where the page says that it is proved.
+It also looks that none of them takes a name from a proof, that a function's contract has its claim from where the page says, and that a law of the claim's own
+type stands where the page says that it is proved.
 
     tools/check_claim.py            prints what differs, and how many files and lines there are to read
 """
@@ -16,7 +17,7 @@ ROOT = pathlib.Path(__file__).resolve().parent.parent
 CRATES = ROOT / "crates"
 PAGE = ROOT / "docs" / "CLAIM.md"
 
-USE = re.compile(r"^use Rattle·([a-z0-9_]+)(·specs)?\.specs\.([\w.]+?)(?:\.\{([^}]*)\}| as \w+)?$")
+USE = re.compile(r"^use Rattle·([a-z0-9_]+)(?:·specs)?\.specs\.([\w.-]+?)(?:\.\{[^}]*\}| as \w+)?$")
 SOURCES = ("document 01", "document 02", "manual", "IEEE 754")
 
 
@@ -52,10 +53,12 @@ def uses(place):
     """The files and types that a file of definitions uses."""
     found = set()
     for line in (CRATES / place[0] / "specs" / f"{place[1]}.antt").read_text().splitlines():
+        if not line.startswith("use Rattle·"):
+            continue
         match = USE.match(line)
         if not match:
-            continue
-        crate, path = match[1], match[3].split(".")
+            sys.exit(f"check_claim.py: {shown(place)} takes more than definitions: {line}")
+        crate, path = match[1], match[2].split(".")
         if path[0] == "declared":
             found.add((crate, path[1], None))
         else:
@@ -130,9 +133,12 @@ def check(text):
     crate = None
     for row in table(text, "Of the code,"):
         claim = re.search(r"`(\w+)", row[0])[1]
+        home, file = places(row[1])[0]
         for function, crate in re.findall(r"`(\w+)` in ([a-z0-9_]+)", row[3]):
             code = (CRATES / crate / "src" / "lib.rt").read_text()
             contract = re.search(rf"fn {function}\(.*?\n *\{{\n", code, re.S)
+            if not re.search(rf"^ghost use Rattle.{home}(?:·specs)?\.specs\.{file}\.\{{[^}}]*\b{claim}\b", code, re.M):
+                faults.append(f"{crate}/src does not have {claim} from {home}/specs/{file}")
             if not contract or not re.search(rf"ensures \{{ λ r\. ⌜ {claim} ", contract[0]):
                 faults.append(f"{function} in {crate}/src does not promise {claim}")
             elif "requires" in contract[0]:
