@@ -1,17 +1,19 @@
-// Nanoseconds of one conversion's arithmetic and of mul_add, as proved and as C has them, in one run. bench/run.sh builds and runs it.
+// Nanoseconds of the conversion of one coordinate and of mul_add, as proved and as C has them, in one run. bench/run.sh builds and runs it.
 // Both sides are called through a function that the compiler does not see into, once for each number; their results are compared.
 #include <float.h>
-#include <limits.h>
 #include <math.h>
 #include <stdint.h>
 #include <stdio.h>
 #include <string.h>
 #include <time.h>
 
-extern int64_t bench_arithmetic_place(double p, double d);
+extern uint64_t bench_arithmetic_convert(double value, double units, double d);
 extern double bench_arithmetic_mul_add(double a, double b, double c);
 
 enum { NUMBERS = 4096, TURNS = 500, RUNS = 9 };
+
+// above the 32 bits of a database value: a report entry is due, or there is no value (crates/bench_arithmetic)
+static const uint64_t DUE = 0x100000000, REFUSED = 0x200000000;
 
 static uint64_t bits(double x) {
     uint64_t b;
@@ -21,19 +23,27 @@ static uint64_t bits(double x) {
 
 static uint64_t ordered(double x) { return bits(x) >> 63 ? ~bits(x) : bits(x) | 1ull << 63; }
 
-// what bench_arithmetic_place answers, with C's round and floor
-__attribute__((noinline)) static int64_t c_place(double p, double d) {
-    double s = p / d;
+static int one_step(double x, double y) { return ordered(x) - ordered(y) + 1 <= 2; }
+
+// what bench_arithmetic_convert answers, with C's round and floor
+__attribute__((noinline)) static uint64_t c_convert(double value, double units, double d) {
+    if (!(0 < units && units <= DBL_MAX))
+        return REFUSED;
+    double p = value * units, s = p / d;
     if (!(fabs(s) < 0x1p52))
-        return INT64_MIN;
+        return REFUSED;
     double nearest = round(s);
-    uint64_t a = ordered(s), b = ordered(nearest);
-    return (int64_t)(a - b + 1 <= 2 ? nearest : floor(s));
+    double whole = one_step(s, nearest) ? nearest : floor(s);
+    if (whole < INT32_MIN || whole > INT32_MAX)
+        return REFUSED;
+    int32_t q = (int32_t)whole;
+    int due = !one_step(s, q) && 0 < fabs(p - q * d);
+    return (due ? DUE : 0) + (uint32_t)q;
 }
 
 __attribute__((noinline)) static double c_mul_add(double a, double b, double c) { return fma(a, b, c); }
 
-static double p[NUMBERS], a[NUMBERS], b[NUMBERS], c[NUMBERS];
+static double v[NUMBERS], a[NUMBERS], b[NUMBERS], c[NUMBERS];
 
 static double now(void) {
     struct timespec t;
@@ -41,12 +51,12 @@ static double now(void) {
     return t.tv_sec * 1e9 + t.tv_nsec;
 }
 
-static uint64_t places(int64_t (*f)(double, double), double *best) {
+static uint64_t conversions(uint64_t (*f)(double, double, double), double *best) {
     uint64_t sum = 0;
     double start = now();
     for (int t = 0; t < TURNS; t++)
         for (int i = 0; i < NUMBERS; i++)
-            sum = sum * 3 + (uint64_t)f(p[i], 0.001);
+            sum = sum * 3 + f(v[i], 1e-6, 1e-9);
     *best = fmin(*best, (now() - start) / TURNS / NUMBERS);
     return sum;
 }
@@ -71,13 +81,13 @@ static double unit(void) { // from -1 to 1
 
 int main(void) {
     for (int i = 0; i < NUMBERS; i++) {
-        p[i] = i % 2 ? unit() * 1e6 : round(unit() * 1e9) * 0.001; // off the grid and on it, in turn
+        v[i] = i % 2 ? unit() * 1e6 : round(unit() * 1e9) * 0.001; // micrometres, off the grid of nanometres and on it, in turn
         a[i] = unit() * 1e3, b[i] = unit(), c[i] = unit() * 1e3;
     }
     double times[4] = {DBL_MAX, DBL_MAX, DBL_MAX, DBL_MAX};
     int same = 1;
     for (int r = 0; r < RUNS; r++) {
-        same &= places(bench_arithmetic_place, times) == places(c_place, times + 1);
+        same &= conversions(bench_arithmetic_convert, times) == conversions(c_convert, times + 1);
         same &= mul_adds(bench_arithmetic_mul_add, times + 2) == mul_adds(c_mul_add, times + 3);
     }
     printf("one conversion: %.1f ns, in C %.1f ns\n", times[0], times[1]);

@@ -7,7 +7,7 @@
 #include <stdio.h>
 #include <string.h>
 
-enum { MUL_ADD, ROUND, FLOOR, CEIL, ROUND_TIES_AWAY, WITHIN_ONE_ULP, BITS, BYTES, IS_FINITE, IS_POSITIVE };
+enum { MUL_ADD, ROUND, FLOOR, CEIL, WITHIN_ONE_ULP, BITS, IS_FINITE, IS_POSITIVE };
 
 static const uint64_t NAN_BITS = 0x7ff8000000000000; // the one pattern that a NaN result is written as
 static const uint64_t SIGN = 0x8000000000000000;
@@ -114,7 +114,6 @@ static void roundings(double x) {
     put(ROUND, bits(x), 0, 0, bits(whole(x, round(x))));
     put(FLOOR, bits(x), 0, 0, bits(whole(x, floor(x))));
     put(CEIL, bits(x), 0, 0, bits(whole(x, ceil(x))));
-    put(ROUND_TIES_AWAY, bits(x), 0, 0, bits(round(x)));
 }
 
 static void both_signs(double x) { roundings(x), roundings(-x); }
@@ -161,7 +160,6 @@ static void patterns(void) {
     for (int i = 0; i < 18; i++) {
         double x = value(s[i]);
         put(BITS, s[i], 0, 0, bits(x));
-        put(BYTES, s[i], 0, 0, bits(x));
         put(IS_FINITE, s[i], 0, 0, isfinite(x) != 0);
         put(IS_POSITIVE, s[i], 0, 0, isfinite(x) && x > 0);
     }

@@ -7,12 +7,12 @@ use lib.Dec.{eqb}
 use lib.Ieee.{Float, nan, binary64, ofBits, toBits, ofInt}
 use lib.Ieee.Scale.{finite}
 use lib.Ieee.Positive.{positive}
-use Rattle.big_endian.specs.Big.{number, numberAt, bytesOf}
-use Rattle.binary64.specs.declared.Whole.{Whole}
-use Rattle.binary64.specs.declared.Whole.the-variants.{NotFinite, Beyond, At}
+use Rattle.big_endian.specs.Big.{numberAt}
+use Rattle.arithmetic.specs.declared.Whole.{Whole}
+use Rattle.arithmetic.specs.declared.Whole.the-variants.{NotFinite, Beyond, At}
 use Rattle.binary64.specs.Value.{roundAway, floorOf, ceilOf}
-use Rattle.binary64.specs.Whole.{wholeOf}
-use Rattle.binary64.specs.Step.{oneStep, nearestDouble}
+use Rattle.arithmetic.specs.Whole.{wholeOf}
+use Rattle.binary64.specs.Step.{oneStep}
 use Rattle.binary64.specs.Fma.{fma}
 
 -- the answer of a rounding of x as a double: from 2 ^ 52 on x is whole itself
@@ -31,10 +31,8 @@ results x y z =
     ∷ toBits binary64 (doubleOf x (wholeOf roundAway x))
     ∷ toBits binary64 (doubleOf x (wholeOf floorOf x))
     ∷ toBits binary64 (doubleOf x (wholeOf ceilOf x))
-    ∷ toBits binary64 (cond (finite x) (nearestDouble x) x)
     ∷ oneOf (oneStep x y)
     ∷ toBits binary64 x
-    ∷ toBits binary64 (ofBits binary64 (number (bytesOf 8 (toBits binary64 x))))
     ∷ oneOf (finite x)
     ∷ oneOf (positive x)
     ∷ []

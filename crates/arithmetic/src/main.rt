@@ -2,11 +2,11 @@
 ghost use mathlib.Core.Path.{_≡_};
 ghost use Prim.Native.Nat.{_+_, _*_, _/_, _≤_};
 ghost use lib.ListN.{length, getD};
-ghost use lib.Ieee.{binary64, toBits, ofBits};
-ghost use Rattle.big_endian.specs.Big.{number, bytesOf};
+ghost use Rattle.binary64.specs.Whole.{rounded};
+ghost use Rattle.arithmetic.specs.Whole.{wholeOf};
 ghost use Rattle.arithmetic.specs.Case as Case;
 ghost use Rattle.arithmetic.specs.Case.{doubleOf, oneOf, results, doubleAt, differing};
-use binary64::Whole;
+use binary64::Direction;
 
 // The bytes of a case: a function's number, then three operands and the result at these places.
 const SIZE: usize = 33;
@@ -28,17 +28,44 @@ const FLOOR: u8 = 2;
 
 const CEIL: u8 = 3;
 
-const ROUND_TIES_AWAY: u8 = 4;
+const WITHIN_ONE_ULP: u8 = 4;
 
-const WITHIN_ONE_ULP: u8 = 5;
+const BITS: u8 = 5;
 
-const BITS: u8 = 6;
+const IS_FINITE: u8 = 6;
 
-const BYTES: u8 = 7;
+const IS_POSITIVE: u8 = 7;
 
-const IS_FINITE: u8 = 8;
+// From this power of two on, in units of 2 ^ -1074, a double is a whole number of 2 ^ 52 or more.
+const WHOLE: u64 = 1074;
 
-const IS_POSITIVE: u8 = 9;
+// A whole number near a double.
+enum Whole {
+    // of a NaN or an infinity
+    NotFinite,
+    // of a double of 2 ^ 52 or more in size: it is whole itself
+    Beyond,
+    At { value: i64 },
+}
+
+// x to a whole number, by the functions that a conversion runs.
+fn to_whole(direction: Direction, x: f64) -> Whole
+    ensures { λ r. ⌜ r ≡ wholeOf (rounded direction) x ⌝ }
+{
+    if binary64::is_finite(x) {
+        let p = binary64::unpack(x);
+        if p.power < WHOLE {
+            let n = binary64::size_toward(direction, p.negative, p.digits, p.power);
+            Whole::At {
+                value: binary64::with_sign(p.negative, n),
+            }
+        } else {
+            Whole::Beyond
+        }
+    } else {
+        Whole::NotFinite
+    }
+}
 
 // The answer of a rounding of x, as a double.
 fn double_of(x: f64, w: Whole) -> f64
@@ -57,27 +84,17 @@ fn one_of(b: bool) -> u64
     if b { 1 } else { 0 }
 }
 
-// The pattern of x, by way of its bytes.
-fn through_bytes(x: f64) -> u64
-    ensures { λ r. ⌜ r ≡ toBits binary64 (ofBits binary64 (number (bytesOf 8 (toBits binary64 x)))) ⌝ }
-{
-    let b = binary64::to_be_bytes(x);
-    binary64::to_bits(binary64::from_be_bytes(&b))
-}
-
 // What the function with that number gives.
 fn result(function: u8, x: f64, y: f64, z: f64) -> u64
     ensures { λ r. ⌜ r ≡ getD (results x y z) function 0 ⌝ }
 {
     match function {
         MUL_ADD => binary64::to_bits(mul_add::mul_add(x, y, z)),
-        ROUND => binary64::to_bits(double_of(x, binary64::round(x))),
-        FLOOR => binary64::to_bits(double_of(x, binary64::floor(x))),
-        CEIL => binary64::to_bits(double_of(x, binary64::ceil(x))),
-        ROUND_TIES_AWAY => binary64::to_bits(binary64::round_ties_away(x)),
+        ROUND => binary64::to_bits(double_of(x, to_whole(Direction::Nearest, x))),
+        FLOOR => binary64::to_bits(double_of(x, to_whole(Direction::Down, x))),
+        CEIL => binary64::to_bits(double_of(x, to_whole(Direction::Up, x))),
         WITHIN_ONE_ULP => one_of(binary64::within_one_ulp(x, y)),
         BITS => binary64::to_bits(x),
-        BYTES => through_bytes(x),
         IS_FINITE => one_of(binary64::is_finite(x)),
         IS_POSITIVE => one_of(binary64::is_positive(x)),
         _ => 0,

@@ -1,2 +1,2 @@
 -- What is measured.
-pub mod Place
+pub mod Word

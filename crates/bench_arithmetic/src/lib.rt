@@ -1,36 +1,43 @@
-// Two functions for C to call and measure: what one conversion takes of the arithmetic, and `mul_add`.
+// Two functions for C to call and measure: the conversion of one coordinate, as the writer runs it, and `mul_add`.
 ghost use mathlib.Core.Path.{_≡_};
-ghost use lib.Ieee.{binary64, div};
+ghost use lib.Ieee.{binary64};
 ghost use Rattle.binary64.specs.Fma.{fma};
-ghost use Rattle.bench_arithmetic.specs.Place.{orLeast, placeOf};
-use binary64::Whole;
+ghost use Rattle.units.specs.declared.Unit.the-variants as Coordinate;
+ghost use Rattle.conversion.specs.declared.GdsRoundingPolicy.the-variants as Policy;
+ghost use Rattle.conversion.specs.Answer.{outcome};
+ghost use Rattle.conversion.specs.Convert.{Spot, convertUnit};
+ghost use Rattle.bench_arithmetic.specs.Word.{wordOf};
+use conversion::Conversion;
+use conversion::GdsRoundingPolicy;
+use units::Unit;
 
-fn or_least(w: Whole) -> i64
-    ensures { λ r. ⌜ r ≡ orLeast w ⌝ }
+// Above the 32 bits of a database value: that a report entry is due, or that there is no value.
+const DUE: u64 = 0x1_0000_0000;
+
+const REFUSED: u64 = 0x2_0000_0000;
+
+// A conversion's answer in one word.
+fn word(c: Conversion) -> u64
+    ensures { λ r. ⌜ ((at : Spot) → r ≡ wordOf (outcome at c)) ⌝ }
 {
-    match w {
-        Whole::NotFinite => i64::MIN,
-        Whole::Beyond => i64::MIN,
-        Whole::At { value } => value,
+    match c {
+        Conversion::Refused { refusal: _ } => REFUSED,
+        Conversion::Converted { value } => big_endian::as_u32(value) as u64,
+        Conversion::Quantized {
+            value,
+            physical: _,
+            error: _,
+        } => DUE + (big_endian::as_u32(value) as u64),
     }
 }
 
-fn place(s: f64) -> i64
-    ensures { λ r. ⌜ r ≡ placeOf s ⌝ }
-{
-    if binary64::within_one_ulp(s, binary64::round_ties_away(s)) {
-        or_least(binary64::round(s))
-    } else {
-        or_least(binary64::floor(s))
-    }
-}
-
-// p / d, snapped and rounded down.
+// A double with its unit to the grid of d, snapped or rounded down.
 #[no_mangle]
-pub extern "C" fn bench_arithmetic_place(p: f64, d: f64) -> i64
-    ensures { λ r. ⌜ r ≡ placeOf (div binary64 p d) ⌝ }
+pub extern "C" fn bench_arithmetic_convert(value: f64, units: f64, d: f64) -> u64
+    ensures { λ r. ⌜ ((at : Spot) → r ≡ wordOf (convertUnit Policy.Floor d at (Coordinate.Float value units))) ⌝ }
 {
-    place(p / d)
+    let u = Unit::Float { value, units };
+    word(conversion::convert_unit(GdsRoundingPolicy::Floor, d, u))
 }
 
 // a * b + c, rounded once.

@@ -6,9 +6,7 @@ use mathlib.Core.Logic.{inl, inr}
 use native.Mathlib.Nat.{le-trans, le-of-eq, lt-of-lt-of-le, lt-of-le-of-lt, eq-zero-or-pos, mul-le-mul-right, add-comm, mod-lt}
 use native.Mathlib.Numerals.{sub-one}
 use native.Mathlib.Omega.{arith}
-use lib.Dec.{T, leb, ltb, eqb, lit<}
-use lib.IntN.{ℤ}
-use borrow.Author.Tests.{lt-ltb, le-ltb}
+use lib.Dec.{T, leb, eqb}
 use lib.Pow.{pow-pos, pow-mono, pow-add, shl-lt}
 use lib.Ieee.{Float, nan, inf, fin, binary64, isNan, odd, ofFields, ofBits, toBits, fits}
 use lib.Ieee.Bits.{ofBits-toBits}
@@ -17,10 +15,9 @@ use lib.Ieee.Scale.{finite}
 use Rattle.binary64.proofs.Powers.{pow-lt-back}
 use Rattle.binary64.specs.declared.Direction.{Direction}
 use Rattle.binary64.specs.declared.Direction.the-variants.{Nearest, Down, Up}
-use Rattle.binary64.specs.declared.Whole.the-variants.{NotFinite, Beyond, At}
 use Rattle.binary64.specs.Value.{unit, sizeOf, negative, halfUp, cutDown, cutUp, signed, roundAway, floorOf, ceilOf}
 use Rattle.binary64.specs.Parts.{PartsOf}
-use Rattle.binary64.specs.Whole.{rounded, sizeToward, wholeOf}
+use Rattle.binary64.specs.Whole.{rounded, sizeToward}
 use Rattle.binary64.proofs.WholeLaws.{nearest-small, cut-small, up-small}
 use Rattle.binary64.proofs.ValueLaws.{size-of-value, sign-of-value, round-is, floor-is, ceil-is}
 
@@ -172,18 +169,3 @@ pub toward-fits : (d : Direction) (s : Bool) (m j n : ℕ) → m < 2 ^ 53 → j 
 toward-fits Nearest s m j n h k e = nearest-fits m j n h k e
 toward-fits Down s m j n h k e = cut-fits s m j n h k e
 toward-fits Up s m j n h k e = cut-fits (not s) m j n h k e
-
--- ---- each way out of `wholeOf`
-
-pub whole-none : (f : Float → ℤ) (x : Float) → finite x ≡ false → NotFinite ≡ wholeOf f x
-unfolding wholeOf
-whole-none f x e = rw e
-
-module _ (f : Float → ℤ) (x : Float) (s : Bool) (m j : ℕ) (p : PartsOf x s m j) (e : finite x ≡ true) where
-  pub whole-beyond : 1074 ≤ j → Beyond ≡ wholeOf f x
-  unfolding wholeOf
-  whole-beyond h = rw (e, le-ltb (sizeOf x) (2 ^ 52 * unit) (size-over x s m j 1074 p (lit< tt) h))
-
-  pub whole-at : (z : ℤ) → j < 1074 → z ≡ f x → At z ≡ wholeOf f x
-  unfolding wholeOf
-  whole-at z h k = rw (k, e, lt-ltb (sizeOf x) (2 ^ 52 * unit) (size-under x s m j 1074 p h))

@@ -1,18 +1,16 @@
-// Doubles worked out from their bits: patterns and bytes, finite and positive, rounding to whole numbers, one step.
+// Doubles worked out from their bits: patterns, finite and positive, rounding to whole numbers, one step.
 // Every function is total on what raw input can reach; what has a `requires` works on digits and powers, below those.
 ghost use mathlib.Core.Path.{_≡_};
 ghost use mathlib.Core.Bool.{_&&_, cond};
-ghost use Prim.Native.Nat.{_+_, _-_, _*_, _^_, _<_, _≤_, min};
+ghost use Prim.Native.Nat.{_+_, _-_, _*_, _^_, _<_, min};
 ghost use lib.Dec.{T, leb};
-ghost use lib.Ieee as Ieee;
 ghost use lib.Ieee.{binary64, ofBits, toBits};
 ghost use lib.Ieee.Scale.{finite};
 ghost use lib.Ieee.Positive.{positive};
-ghost use Rattle.big_endian.specs.Big.{number, bytesOf};
-ghost use Rattle.binary64.specs.Value.{halfUp, cutDown, cutUp, signed, roundAway, floorOf, ceilOf};
+ghost use Rattle.binary64.specs.Value.{halfUp, cutDown, cutUp, signed};
 ghost use Rattle.binary64.specs.Parts.{PartsOf};
-ghost use Rattle.binary64.specs.Whole.{rounded, sizeToward, wholeOf};
-ghost use Rattle.binary64.specs.Step.{orderedBits, oneStep, nearestDouble};
+ghost use Rattle.binary64.specs.Whole.{sizeToward};
+ghost use Rattle.binary64.specs.Step.{orderedBits, oneStep};
 
 // A pattern is the sign, 11 bits of the exponent's field, and 52 binary digits.
 // The sign's weight.
@@ -46,30 +44,6 @@ pub fn to_bits(x: f64) -> u64
     ensures { λ r. ⌜ r ≡ toBits binary64 x ⌝ }
 {
     if x != x { NAN } else { f64::to_bits(x) }
-}
-
-// The double that eight bytes stand for, the highest first.
-pub fn from_be_bytes(b: &[u8; 8]) -> f64
-    ensures { λ r. ⌜ r ≡ ofBits binary64 (number (now (b .entry))) ⌝ }
-{
-    from_bits(big_endian::u64_at(b, 0))
-}
-
-// The eight bytes of a double, the highest first.
-pub fn to_be_bytes(x: f64) -> [u8; 8]
-    ensures { λ r. ⌜ r ≡ bytesOf 8 (toBits binary64 x) ⌝ }
-{
-    let bits = to_bits(x);
-    [
-        (bits / 0x100_0000_0000_0000 % 256) as u8,
-        (bits / 0x1_0000_0000_0000 % 256) as u8,
-        (bits / 0x100_0000_0000 % 256) as u8,
-        (bits / 0x1_0000_0000 % 256) as u8,
-        (bits / 0x100_0000 % 256) as u8,
-        (bits / 0x1_0000 % 256) as u8,
-        (bits / 0x100 % 256) as u8,
-        (bits % 256) as u8,
-    ]
 }
 
 // Whether x is neither a NaN nor an infinity.
@@ -131,7 +105,7 @@ fn places(power: u64) -> u64
 }
 
 // digits * 2 ^ power units, to the nearest whole number, a half up.
-pub fn to_nearest(digits: u64, power: u64) -> u64
+fn to_nearest(digits: u64, power: u64) -> u64
     requires { ⌜ digits < 2 ^ 53 ⌝ }
     requires { ⌜ power < 1074 ⌝ }
     ensures { λ r. ⌜ r ≡ halfUp (digits * 2 ^ power) ⌝ }
@@ -141,7 +115,7 @@ pub fn to_nearest(digits: u64, power: u64) -> u64
 }
 
 // digits * 2 ^ power units, cut down to a whole number.
-pub fn cut(digits: u64, power: u64) -> u64
+fn cut(digits: u64, power: u64) -> u64
     requires { ⌜ digits < 2 ^ 53 ⌝ }
     requires { ⌜ power < 1074 ⌝ }
     ensures { λ r. ⌜ r ≡ cutDown (digits * 2 ^ power) ⌝ }
@@ -150,7 +124,7 @@ pub fn cut(digits: u64, power: u64) -> u64
 }
 
 // digits * 2 ^ power units, cut up to a whole number.
-pub fn cut_up(digits: u64, power: u64) -> u64
+fn cut_up(digits: u64, power: u64) -> u64
     requires { ⌜ digits < 2 ^ 53 ⌝ }
     requires { ⌜ power < 1074 ⌝ }
     ensures { λ r. ⌜ r ≡ cutUp (digits * 2 ^ power) ⌝ }
@@ -160,7 +134,7 @@ pub fn cut_up(digits: u64, power: u64) -> u64
 }
 
 // digits * 2 ^ power units, cut up or down to a whole number.
-pub fn cut_by(up: bool, digits: u64, power: u64) -> u64
+fn cut_by(up: bool, digits: u64, power: u64) -> u64
     requires { ⌜ digits < 2 ^ 53 ⌝ }
     requires { ⌜ power < 1074 ⌝ }
     ensures { λ r. ⌜ r ≡ cond up (cutUp (digits * 2 ^ power)) (cutDown (digits * 2 ^ power)) ⌝ }
@@ -181,23 +155,6 @@ pub fn with_sign(negative: bool, size: u64) -> i64
     if negative { 0 - n } else { n }
 }
 
-// The same in 32 bits.
-pub fn to_i32(negative: bool, size: u64) -> i32
-    requires { ⌜ size < 2 ^ 31 ⌝ }
-    ensures { λ r. ⌜ r ≡ signed negative size ⌝ }
-{
-    with_sign(negative, size) as i32
-}
-
-// A whole number near a double.
-pub enum Whole {
-    // of a NaN or an infinity
-    NotFinite,
-    // of a double of 2 ^ 52 or more in size: it is whole itself
-    Beyond,
-    At { value: i64 },
-}
-
 // To which whole number a double goes: the nearest with a half away from zero, the one below or the one above
 // (IEEE 754, 5.9: roundToIntegralTiesToAway, roundToIntegralTowardNegative, roundToIntegralTowardPositive).
 pub enum Direction {
@@ -206,8 +163,8 @@ pub enum Direction {
     Up,
 }
 
-// The size of the whole number.
-fn size_toward(direction: Direction, negative: bool, digits: u64, power: u64) -> u64
+// digits * 2 ^ power units with a sign, to a whole number in a direction: its size.
+pub fn size_toward(direction: Direction, negative: bool, digits: u64, power: u64) -> u64
     requires { ⌜ digits < 2 ^ 53 ⌝ }
     requires { ⌜ power < 1074 ⌝ }
     ensures { λ r. ⌜ r ≡ sizeToward direction negative (digits * 2 ^ power) ⌝ }
@@ -219,73 +176,8 @@ fn size_toward(direction: Direction, negative: bool, digits: u64, power: u64) ->
     }
 }
 
-// x to a whole number, in a direction.
-pub fn to_whole(direction: Direction, x: f64) -> Whole
-    ensures { λ r. ⌜ r ≡ wholeOf (rounded direction) x ⌝ }
-{
-    if is_finite(x) {
-        let p = unpack(x);
-        if p.power < ONE_POWER {
-            let n = size_toward(direction, p.negative, p.digits, p.power);
-            Whole::At {
-                value: with_sign(p.negative, n),
-            }
-        } else {
-            Whole::Beyond
-        }
-    } else {
-        Whole::NotFinite
-    }
-}
-
-// x to the nearest whole number, a half away from zero.
-pub fn round(x: f64) -> Whole
-    ensures { λ r. ⌜ r ≡ wholeOf roundAway x ⌝ }
-{
-    to_whole(Direction::Nearest, x)
-}
-
-// The largest whole number that is at most x.
-pub fn floor(x: f64) -> Whole
-    ensures { λ r. ⌜ r ≡ wholeOf floorOf x ⌝ }
-{
-    to_whole(Direction::Down, x)
-}
-
-// The smallest whole number that is at least x.
-pub fn ceil(x: f64) -> Whole
-    ensures { λ r. ⌜ r ≡ wholeOf ceilOf x ⌝ }
-{
-    to_whole(Direction::Up, x)
-}
-
-// A whole number with a sign, as a double.
-pub fn double_of(negative: bool, n: u64) -> f64
-    requires { ⌜ n ≤ 2 ^ 53 ⌝ }
-    ensures { λ r. ⌜ r ≡ Ieee.round binary64 negative n 1 ⌝ }
-{
-    let x = n as f64;
-    if negative { -x } else { x }
-}
-
-// The whole number nearest to x as a double, a half away from zero, the sign kept; a NaN or an infinity as it is.
-pub fn round_ties_away(x: f64) -> f64
-    ensures { λ r. ⌜ r ≡ cond (finite x) (nearestDouble x) x ⌝ }
-{
-    if is_finite(x) {
-        let p = unpack(x);
-        if p.power < ONE_POWER {
-            double_of(p.negative, to_nearest(p.digits, p.power))
-        } else {
-            x
-        }
-    } else {
-        x
-    }
-}
-
 // A pattern's place in the order of the doubles.
-pub fn ordered_bits(bits: u64) -> u64
+fn ordered_bits(bits: u64) -> u64
     ensures { λ r. ⌜ r ≡ orderedBits bits ⌝ }
 {
     if bits >= SIGN {

@@ -16,11 +16,9 @@ use Rattle.units.specs.Physical.{unitsOf, physical, passed}
 use Rattle.conversion.specs.declared.GdsRoundingPolicy.{GdsRoundingPolicy}
 use Rattle.conversion.specs.declared.DatabaseValue.{DatabaseValue}
 use Rattle.conversion.specs.declared.DatabaseValue.the-variants as D
-use Rattle.conversion.specs.declared.PhysicalValue.{PhysicalValue}
-use Rattle.conversion.specs.declared.PhysicalValue.the-variants as P
 use Rattle.conversion.specs.Made.{refused, made, pure, _>>=_}
 use Rattle.conversion.specs.Convert.{Spot, deviations, ranged, gridValue, databaseValue, convertPhysical, physicalValue, convertBy, convertUnit, arrayEndpoint}
-use Rattle.conversion.specs.Answer.{valueOf, physicalOf}
+use Rattle.conversion.specs.Answer.{valueOf}
 use Rattle.conversion.proofs.MadeLaws.{need-on, need-off, refused-on, pure-on}
 
 -- ---- the database value
@@ -77,15 +75,17 @@ module _ (u : Unit) where
   unfolding physicalValue
   physical-infinite h p e k = sym (need-on (positive (unitsOf u)) R.SourceUnit _ h ∙ need-off (finite (physical u)) R.NotFinite _ (ap finite (sym e) ∙ k))
 
+-- what does not pass unchanged
+module _ (d : Float) (u : Unit) where
+  pub integer-stays : (v : ℤ) (w : Float) → u ≡ U.Integer v w → eq w d ≡ false → passed d u ≡ none
+  unfolding passed
+  integer-stays v w e h = ap (passed d) e ∙ rw h
+
+  pub float-stays : (v w : Float) → u ≡ U.Float v w → passed d u ≡ none
+  unfolding passed
+  float-stays v w e = ap (passed d) e
+
 module _ (policy : GdsRoundingPolicy) (d : Float) (at : Spot) (u : Unit) where
-  pub by-refused : (v : PhysicalValue) (r : Refusal) → v ≡ P.Refused r → physicalOf v ≡ physicalValue u → refused r ≡ convertBy policy d at u none
-  unfolding convertBy
-  by-refused v r e h = refused-on (physicalValue u) (convertPhysical policy d at) r (sym (ap physicalOf e) ∙ h)
-
-  pub by-physical : (v : PhysicalValue) (p : Float) → v ≡ P.At p → physicalOf v ≡ physicalValue u → convertPhysical policy d at p ≡ convertBy policy d at u none
-  unfolding convertBy
-  by-physical v p e h = pure-on (physicalValue u) (convertPhysical policy d at) p (sym (ap physicalOf e) ∙ h)
-
   -- z is what the machine reads of v
   pub unit-passes : (v z : ℤ) (w : Float) → u ≡ U.Integer v w → z ≡ v → eq w d ≡ true → pure z ≡ convertUnit policy d at u
   unfolding convertUnit convertBy passed
@@ -98,15 +98,11 @@ module _ (policy : GdsRoundingPolicy) (d : Float) (at : Spot) (u : Unit) where
   unfolding convertUnit
   by-none h = ap (convertBy policy d at u) (sym h)
 
-  -- the three ways by what passes, for code that has the unit and the physical value alone. One test refuses what is not finite: where p is not, its quotient is not.
-  pub by-some : (v : ℤ) → passed d u ≡ some v → pure v ≡ convertUnit policy d at u
-  unfolding convertUnit convertBy
-  by-some v h = ap (convertBy policy d at u) (sym h)
-
   pub by-source : passed d u ≡ none → positive (unitsOf u) ≡ false → refused R.SourceUnit ≡ convertUnit policy d at u
   unfolding convertBy
   by-source n h = refused-on (physicalValue u) (convertPhysical policy d at) R.SourceUnit (physical-source u h) ∙ by-none n
 
+  -- one test refuses what is not finite: where p is not, its quotient is not
   pub by-positive : passed d u ≡ none → positive (unitsOf u) ≡ true → convertPhysical policy d at (physical u) ≡ convertUnit policy d at u
   unfolding convertBy
   by-positive n h = go (finite (physical u)) refl ∙ by-none n
@@ -116,14 +112,6 @@ module _ (policy : GdsRoundingPolicy) (d : Float) (at : Spot) (u : Unit) where
       go false e =
           sym (physical-refused policy d (physical u) at (D.Refused R.NotFinite) R.NotFinite refl (value-not-finite policy d (physical u) e))
           ∙ refused-on (physicalValue u) (convertPhysical policy d at) R.NotFinite (physical-infinite u h (physical u) refl e)
-
-  pub integer-by : (v : ℤ) (w : Float) → u ≡ U.Integer v w → eq w d ≡ false → convertBy policy d at (U.Integer v w) none ≡ convertUnit policy d at u
-  unfolding passed
-  integer-by v w e h = ap (λ (x : Unit). convertBy policy d at x none) (sym e) ∙ by-none (ap (passed d) e ∙ rw h)
-
-  pub float-by : (v w : Float) → u ≡ U.Float v w → convertBy policy d at u none ≡ convertUnit policy d at u
-  unfolding passed
-  float-by v w e = by-none (ap (passed d) e)
 
 -- ---- an endpoint; z is its whole number
 

@@ -7,17 +7,13 @@ use native.Mathlib.Omega.{arith}
 use lib.Dec.{eqb}
 use lib.ListN.{length}
 use lib.IntN.{ℤ}
-use lib.Ieee.{Float, lt}
+use lib.Ieee.{lt}
 use borrow.Author.Tests.{eq-eqb, ne-eqb}
 use Rattle.refusal.specs.declared.Refusal.{Refusal}
 use Rattle.conversion.specs.declared.Deviation.{Deviation}
 use Rattle.conversion.specs.declared.Entry.{Entry}
 use Rattle.conversion.specs.Entry.{firstEntry, takes, takesAll, entryOf}
 use Rattle.conversion.specs.Made.{Made, refused, made, pure, after, need, _>>=_, _>>_}
-use Rattle.conversion.specs.declared.Conversion.{Conversion}
-use Rattle.conversion.specs.declared.Conversion.the-variants as C
-use Rattle.conversion.specs.Convert.{Spot}
-use Rattle.conversion.specs.Answer.{outcome}
 use Rattle.conversion.specs.Fold.{blankEntry, noted, notedAll, standing, run}
 
 -- ---- one deviation, with z for its database value
@@ -159,22 +155,3 @@ module _ {R : Type 0} (stop : Refusal → R) where
   unfolding run
   run-same e (refused r) k l h = refl
   run-same e (made a vs) k l h = h a (notedAll e vs)
-
--- ---- a conversion as a step, by its answer c
-
-module _ {R : Type 0} (stop : Refusal → R) {B : Type 0} (e : Entry) (at : Spot) (m : Made ℤ) (c : Conversion) (h : outcome at c ≡ m) (f : ℤ → Made B) (k : B → Entry → R) where
-  on : (c' : Conversion) → c ≡ c' → run stop e (outcome at c') (λ a e'. run stop e' (f a) k) ≡ run stop e (m >>= f) k
-  on c' g = ap (λ (n : Made ℤ). run stop e n (λ a e'. run stop e' (f a) k)) (ap (outcome at) (sym g) ∙ h) ∙ sym (run-bind stop e m f k)
-
-  pub run-refused : (r : Refusal) → c ≡ C.Refused r → stop r ≡ run stop e (m >>= f) k
-  unfolding run
-  run-refused r g = on (C.Refused r) g
-
-  pub run-converted : (q : ℤ) → c ≡ C.Converted q → run stop e (f q) k ≡ run stop e (m >>= f) k
-  unfolding run notedAll
-  run-converted q g = on (C.Converted q) g
-
-  pub run-quantized : (q : ℤ) (p x : Float) → c ≡ C.Quantized q p x
-      → run stop (noted e (record { field = at .field; axis = at .axis; place = at .place; physical = p; database = q; error = x })) (f q) k ≡ run stop e (m >>= f) k
-  unfolding run notedAll
-  run-quantized q p x g = on (C.Quantized q p x) g

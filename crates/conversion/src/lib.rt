@@ -1,6 +1,6 @@
 // Physical values to the database grid, and the report entry of an element (write/conversion.rs).
 // Nothing is required of the database unit d: the definitions say what each answer is for every double.
-ghost use mathlib.Core.Option.{none, some};
+ghost use mathlib.Core.Option.{some};
 ghost use mathlib.Core.Path.{_≡_};
 ghost use Prim.Native.Nat.{_+_, _≤_, _<_, _^_};
 ghost use lib.ListN.{length};
@@ -19,6 +19,7 @@ ghost use Rattle.conversion.specs.Array.{endpointPhysical};
 ghost use Rattle.big_endian.specs.Buffer.{WroteAt};
 ghost use Rattle.conversion.specs.Entry.{takes, placeBytes, entryBytes};
 ghost use Rattle.conversion.specs.Fold.{blankEntry, noted};
+use binary64::Direction;
 use refusal::Refusal;
 use units::Unit;
 
@@ -186,7 +187,7 @@ fn grid_value(policy: GdsRoundingPolicy, s: f64) -> DatabaseValue
             refusal: Refusal::OutOfRange,
         };
     }
-    let n = binary64::to_nearest(digits, power);
+    let n = binary64::size_toward(Direction::Nearest, negative, digits, power);
     let nearest = ranged(binary64::with_sign(negative, n));
     match policy {
         GdsRoundingPolicy::Nearest => nearest,
@@ -194,14 +195,14 @@ fn grid_value(policy: GdsRoundingPolicy, s: f64) -> DatabaseValue
             if on_grid(s, n) {
                 return nearest;
             }
-            let down = binary64::cut_by(negative, digits, power);
+            let down = binary64::size_toward(Direction::Down, negative, digits, power);
             ranged(binary64::with_sign(negative, down))
         }
         GdsRoundingPolicy::Ceil => {
             if on_grid(s, n) {
                 return nearest;
             }
-            let up = binary64::cut_by(!negative, digits, power);
+            let up = binary64::size_toward(Direction::Up, negative, digits, power);
             ranged(binary64::with_sign(negative, up))
         }
         GdsRoundingPolicy::ErrorIfOffGrid => {
@@ -301,28 +302,20 @@ pub fn physical_value(u: Unit) -> PhysicalValue
     }
 }
 
-// A coordinate by its physical value.
-fn convert_by_physical(policy: GdsRoundingPolicy, d: f64, u: Unit) -> Conversion
-    ensures { λ r. ⌜ ((at : Spot) → outcome at r ≡ Convert.convertBy policy d at u none) ⌝ }
-{
-    match physical_value(u) {
-        PhysicalValue::Refused { refusal } => Conversion::Refused { refusal },
-        PhysicalValue::At { value } => convert_physical(policy, d, value),
-    }
-}
-
-// A coordinate to the grid: an integer whose unit equals d passes unchanged.
+// A coordinate to the grid: an integer whose unit equals d passes unchanged. A physical value that is not finite is refused by the test of its quotient.
 pub fn convert_unit(policy: GdsRoundingPolicy, d: f64, u: Unit) -> Conversion
     ensures { λ r. ⌜ ((at : Spot) → outcome at r ≡ convertUnit policy d at u) ⌝ }
 {
-    match u {
-        Unit::Integer { value, units } => {
-            if units == d {
-                return Conversion::Converted { value };
-            }
-            convert_by_physical(policy, d, u)
+    if let Unit::Integer { value, units } = u {
+        if units == d {
+            return Conversion::Converted { value };
         }
-        Unit::Float { value: _, units: _ } => convert_by_physical(policy, d, u),
+    }
+    if binary64::is_positive(u.units()) {
+        return convert_physical(policy, d, u.absolute_value());
+    }
+    Conversion::Refused {
+        refusal: Refusal::SourceUnit,
     }
 }
 

@@ -19,10 +19,8 @@ const DOUBLE: u8 = 1;
 
 const ABSENT: u8 = 2;
 
-// After a coordinate's kind: its 8 value bytes, of which an integer has the lower four, and its unit.
+// After a coordinate's kind: its 8 value bytes and its unit.
 const VALUE: usize = 1;
-
-const LOWER_VALUE: usize = 5;
 
 const UNIT: usize = 9;
 
@@ -232,22 +230,19 @@ fn double(b: &[u8], at: usize) -> f64
     binary64::from_bits(big_endian::u64_at(b, at))
 }
 
-// The coordinate at a place, where it is not absent.
+// The coordinate at a place, where it is not absent. Its value bytes are read at once, whatever its kind; an integer is the lower four of them.
 pub fn unit_at(b: &[u8], at: usize) -> units::Unit
     requires { ⌜ at + 17 ≤ length (now b) ⌝ }
     ensures { λ r. ⌜ r ≡ unitAt (now (b .entry)) at ⌝ }
 {
+    let raw = big_endian::u64_at(b, at + VALUE);
     let units = double(b, at + UNIT);
     if big_endian::u8_at(b, at) == INTEGER {
-        return units::Unit::Integer {
-            value: big_endian::as_i32(big_endian::u32_at(b, at + LOWER_VALUE)),
-            units,
-        };
+        let value = big_endian::as_i32((raw % INTEGERS) as u32);
+        return units::Unit::Integer { value, units };
     }
-    units::Unit::Float {
-        value: double(b, at + VALUE),
-        units,
-    }
+    let value = binary64::from_bits(raw);
+    units::Unit::Float { value, units }
 }
 
 // Whether the coordinate at a place is absent, or the spacing.

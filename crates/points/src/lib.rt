@@ -1,13 +1,9 @@
 // Values and points of the sheet to the grid, with the element's report entry, and points into the lent output (`write_points_to_file` of write/mod.rs).
 ghost use mathlib.Core.Path.{_≡_};
-ghost use mathlib.Core.Bool.{true, _&&_, cond};
+ghost use mathlib.Core.Bool.{true};
 ghost use mathlib.Core.List.{_++_};
-ghost use Prim.Native.Nat.{_+_, _-_, _*_, _%_, _≤_, _<_};
-ghost use lib.Dec.{eqb};
+ghost use Prim.Native.Nat.{_+_, _-_, _*_, _≤_, _<_};
 ghost use lib.ListN.{length};
-ghost use lib.Ieee.{binary64, eq, ofBits, ofInt};
-ghost use mir.Syntax.{w32};
-ghost use mir.Val.{toZ};
 ghost use Rattle.big_endian.specs.Big.{numberAt};
 ghost use Rattle.big_endian.specs.Buffer.{WroteAt};
 ghost use Rattle.sheet.specs.Form.{integerKind};
@@ -35,17 +31,12 @@ const POINT: usize = 34;
 
 const XY_POINT: usize = 8;
 
-// In a coordinate: the kind byte of an integer, and the places of the value, of the unit, and of an integer's value, which is the lower four of the value bytes.
+// In a coordinate: the kind byte of an integer, and the places of the unit and of an integer's value.
 const INTEGER: u8 = 0;
-
-const VALUE: usize = 1;
 
 const UNIT: usize = 9;
 
 const INTEGER_VALUE: usize = 5;
-
-// The numbers of four bytes are those below this.
-const INTEGERS: u64 = 0x1_0000_0000;
 
 // A value of the grid, with the element's entry after it.
 pub enum Valued {
@@ -105,51 +96,12 @@ pub fn record_quantization(c: Conversion, field: u8, axis: u8, place: u16, entry
     }
 }
 
-// Whether a coordinate passes unchanged: an integer whose unit equals d.
-fn passes(kind: u8, units: f64, d: f64) -> bool
-    ensures { λ r. ⌜ r ≡ (eqb kind 0 && eq units d) ⌝ }
-{
-    if kind == INTEGER { units == d } else { false }
-}
-
-// An integer is the lower four of the eight value bytes.
-fn lower_value(raw: u64) -> i32
-    ensures { λ r. ⌜ r ≡ toZ w32 (raw % 4294967296) ⌝ }
-{
-    big_endian::as_i32((raw % INTEGERS) as u32)
-}
-
-// The value bytes as a double.
-fn double_value(kind: u8, raw: u64) -> f64
-    ensures { λ r. ⌜ r ≡ cond (eqb kind 0) (ofInt binary64 (toZ w32 (raw % 4294967296))) (ofBits binary64 raw) ⌝ }
-{
-    if kind == INTEGER {
-        lower_value(raw) as f64
-    } else {
-        binary64::from_bits(raw)
-    }
-}
-
-// The coordinate at a place of the block, to the grid. Its value bytes are read at once, whatever its kind; a physical value that is not finite
-// is refused by the test of its quotient.
+// The coordinate at a place of the block, to the grid.
 fn convert_at(policy: GdsRoundingPolicy, d: f64, b: &[u8], at: usize) -> Conversion
     requires { ⌜ at + 17 ≤ length (now b) ⌝ }
     ensures { λ r. ⌜ ((s : Spot) → outcome s r ≡ convertUnit policy d s (unitAt (now (b .entry)) at)) ⌝ }
 {
-    let kind = big_endian::u8_at(b, at);
-    let raw = big_endian::u64_at(b, at + VALUE);
-    let units = binary64::from_bits(big_endian::u64_at(b, at + UNIT));
-    if passes(kind, units, d) {
-        return Conversion::Converted {
-            value: lower_value(raw),
-        };
-    }
-    if binary64::is_positive(units) {
-        return conversion::convert_physical(policy, d, double_value(kind, raw) * units);
-    }
-    Conversion::Refused {
-        refusal: Refusal::SourceUnit,
-    }
+    conversion::convert_unit(policy, d, forms::unit_at(b, at))
 }
 
 // The same, in its place.

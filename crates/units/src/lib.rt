@@ -1,6 +1,6 @@
 // Coordinates with their units (units.rs).
 ghost use mathlib.Core.Path.{_≡_};
-ghost use Rattle.units.specs.Physical.{unitsOf, physical, floatUnit};
+ghost use Rattle.units.specs.Physical.{unitsOf, physical};
 
 // "a coordinate is an integer with its unit or a double with its unit"
 pub enum Unit {
@@ -26,19 +26,6 @@ impl Unit {
         match self {
             Unit::Integer { value, units } => (value as f64) * units,
             Unit::Float { value, units } => value * units,
-        }
-    }
-
-    // The same coordinate by a double.
-    pub fn to_float_unit(self) -> Unit
-        ensures { λ r. ⌜ r ≡ floatUnit self ⌝ }
-    {
-        match self {
-            Unit::Integer { value, units } => Unit::Float {
-                value: value as f64,
-                units,
-            },
-            Unit::Float { value, units } => Unit::Float { value, units },
         }
     }
 }

@@ -7,9 +7,9 @@ use native.Mathlib.Omega.{arith}
 use lib.ListN.{length, getD}
 use lib.IntN.{ℤ}
 use lib.Ieee.{Float, binary64, toBits}
-use Rattle.binary64.specs.declared.Whole.{Whole}
+use Rattle.arithmetic.specs.declared.Whole.{Whole}
 use Rattle.binary64.specs.Value.{roundAway, floorOf, ceilOf}
-use Rattle.binary64.specs.Whole.{wholeOf}
+use Rattle.arithmetic.specs.Whole.{wholeOf}
 use Rattle.arithmetic.specs.Case.{doubleOf, oneOf, results}
 use borrow.Author.Needs.{needs}
 use Rattle.arithmetic.proofs.result.Statement.{statement}
@@ -37,8 +37,8 @@ mul-add-requires c κs = search needs
 to-bits-requires : tie.Need-to-bits-requires
 to-bits-requires c κs = search needs
 
-round-requires : tie.Need-round-requires
-round-requires c κs = search needs
+to-whole-requires : tie.Need-to-whole-requires
+to-whole-requires c κs = search needs
 
 double-of-requires : tie.Need-double-of-requires
 double-of-requires c κs = search needs
@@ -46,8 +46,8 @@ double-of-requires c κs = search needs
 to-bits-requires-2 : tie.Need-to-bits-requires-2
 to-bits-requires-2 c κs = search needs
 
-floor-requires : tie.Need-floor-requires
-floor-requires c κs = search needs
+to-whole-requires-2 : tie.Need-to-whole-requires-2
+to-whole-requires-2 c κs = search needs
 
 double-of-requires-2 : tie.Need-double-of-requires-2
 double-of-requires-2 c κs = search needs
@@ -55,8 +55,8 @@ double-of-requires-2 c κs = search needs
 to-bits-requires-3 : tie.Need-to-bits-requires-3
 to-bits-requires-3 c κs = search needs
 
-ceil-requires : tie.Need-ceil-requires
-ceil-requires c κs = search needs
+to-whole-requires-3 : tie.Need-to-whole-requires-3
+to-whole-requires-3 c κs = search needs
 
 double-of-requires-3 : tie.Need-double-of-requires-3
 double-of-requires-3 c κs = search needs
@@ -64,23 +64,14 @@ double-of-requires-3 c κs = search needs
 to-bits-requires-4 : tie.Need-to-bits-requires-4
 to-bits-requires-4 c κs = search needs
 
-round-ties-away-requires : tie.Need-round-ties-away-requires
-round-ties-away-requires c κs = search needs
-
-to-bits-requires-5 : tie.Need-to-bits-requires-5
-to-bits-requires-5 c κs = search needs
-
 within-one-ulp-requires : tie.Need-within-one-ulp-requires
 within-one-ulp-requires c κs = search needs
 
 one-of-requires : tie.Need-one-of-requires
 one-of-requires c κs = search needs
 
-to-bits-requires-6 : tie.Need-to-bits-requires-6
-to-bits-requires-6 c κs = search needs
-
-through-bytes-requires : tie.Need-through-bytes-requires
-through-bytes-requires c κs = search needs
+to-bits-requires-5 : tie.Need-to-bits-requires-5
+to-bits-requires-5 c κs = search needs
 
 is-finite-requires : tie.Need-is-finite-requires
 is-finite-requires c κs = search needs
@@ -100,43 +91,35 @@ returns c = let s = c .before .before in at (s .before .args .x) (s .before .arg
 
 returns-2 : tie.Need-returns-2
 unfolding results
-returns-2 c = let s = c .before .before .before in at (s .before .args .x) (s .before .args .y) (s .before .args .z) (s .before .args .function) 1 _ (s .match .keys2) (rounded roundAway _ _ _ _ (c .before .before .round .ensures) (c .before .double-of .ensures) (c .to-bits2 .ensures))
+returns-2 c = let s = c .before .before .before in at (s .before .args .x) (s .before .args .y) (s .before .args .z) (s .before .args .function) 1 _ (s .match .keys2) (rounded roundAway _ _ _ _ (c .before .before .to-whole .ensures) (c .before .double-of .ensures) (c .to-bits2 .ensures))
 
 returns-3 : tie.Need-returns-3
 unfolding results
-returns-3 c = let s = c .before .before .before in at (s .before .args .x) (s .before .args .y) (s .before .args .z) (s .before .args .function) 2 _ (s .match .keys3) (rounded floorOf _ _ _ _ (c .before .before .floor .ensures) (c .before .double-of2 .ensures) (c .to-bits3 .ensures))
+returns-3 c = let s = c .before .before .before in at (s .before .args .x) (s .before .args .y) (s .before .args .z) (s .before .args .function) 2 _ (s .match .keys3) (rounded floorOf _ _ _ _ (c .before .before .to-whole2 .ensures) (c .before .double-of2 .ensures) (c .to-bits3 .ensures))
 
 returns-4 : tie.Need-returns-4
 unfolding results
-returns-4 c = let s = c .before .before .before in at (s .before .args .x) (s .before .args .y) (s .before .args .z) (s .before .args .function) 3 _ (s .match .keys4) (rounded ceilOf _ _ _ _ (c .before .before .ceil .ensures) (c .before .double-of3 .ensures) (c .to-bits4 .ensures))
+returns-4 c = let s = c .before .before .before in at (s .before .args .x) (s .before .args .y) (s .before .args .z) (s .before .args .function) 3 _ (s .match .keys4) (rounded ceilOf _ _ _ _ (c .before .before .to-whole3 .ensures) (c .before .double-of3 .ensures) (c .to-bits4 .ensures))
 
 returns-5 : tie.Need-returns-5
 unfolding results
-returns-5 c = let s = c .before .before in at (s .before .args .x) (s .before .args .y) (s .before .args .z) (s .before .args .function) 4 _ (s .match .keys5) (c .to-bits5 .ensures ∙ ap (toBits binary64) (c .before .round-ties-away .ensures))
+returns-5 c = let s = c .before .before in at (s .before .args .x) (s .before .args .y) (s .before .args .z) (s .before .args .function) 4 _ (s .match .keys5) (c .one-of .ensures ∙ ap oneOf (c .before .within-one-ulp .ensures))
 
 returns-6 : tie.Need-returns-6
 unfolding results
-returns-6 c = let s = c .before .before in at (s .before .args .x) (s .before .args .y) (s .before .args .z) (s .before .args .function) 5 _ (s .match .keys6) (c .one-of .ensures ∙ ap oneOf (c .before .within-one-ulp .ensures))
+returns-6 c = let s = c .before in at (s .before .args .x) (s .before .args .y) (s .before .args .z) (s .before .args .function) 5 _ (s .match .keys6) (c .to-bits5 .ensures)
 
 returns-7 : tie.Need-returns-7
 unfolding results
-returns-7 c = let s = c .before in at (s .before .args .x) (s .before .args .y) (s .before .args .z) (s .before .args .function) 6 _ (s .match .keys7) (c .to-bits6 .ensures)
+returns-7 c = let s = c .before .before in at (s .before .args .x) (s .before .args .y) (s .before .args .z) (s .before .args .function) 6 _ (s .match .keys7) (c .one-of2 .ensures ∙ ap oneOf (c .before .is-finite .ensures))
 
 returns-8 : tie.Need-returns-8
 unfolding results
-returns-8 c = let s = c .before in at (s .before .args .x) (s .before .args .y) (s .before .args .z) (s .before .args .function) 7 _ (s .match .keys8) (c .through-bytes .ensures)
+returns-8 c = let s = c .before .before in at (s .before .args .x) (s .before .args .y) (s .before .args .z) (s .before .args .function) 7 _ (s .match .keys8) (c .one-of3 .ensures ∙ ap oneOf (c .before .is-positive .ensures))
 
 returns-9 : tie.Need-returns-9
 unfolding results
-returns-9 c = let s = c .before .before in at (s .before .args .x) (s .before .args .y) (s .before .args .z) (s .before .args .function) 8 _ (s .match .keys9) (c .one-of2 .ensures ∙ ap oneOf (c .before .is-finite .ensures))
-
-returns-10 : tie.Need-returns-10
-unfolding results
-returns-10 c = let s = c .before .before in at (s .before .args .x) (s .before .args .y) (s .before .args .z) (s .before .args .function) 9 _ (s .match .keys10) (c .one-of3 .ensures ∙ ap oneOf (c .before .is-positive .ensures))
-
-returns-11 : tie.Need-returns-11
-unfolding results
-returns-11 c = let n = c .match .rest in sym (beyond (results (c .before .args .x) (c .before .args .y) (c .before .args .z)) (c .before .args .function) (up (up (up (up (up (up (up (up (up (up zero-le (n .0 .0 .0 .0 .0 .0 .0 .0 .0 .1)) (n .0 .0 .0 .0 .0 .0 .0 .0 .1)) (n .0 .0 .0 .0 .0 .0 .0 .1)) (n .0 .0 .0 .0 .0 .0 .1)) (n .0 .0 .0 .0 .0 .1)) (n .0 .0 .0 .0 .1)) (n .0 .0 .0 .1)) (n .0 .0 .1)) (n .0 .1)) (n .1)))
+returns-9 c = let n = c .match .rest in sym (beyond (results (c .before .args .x) (c .before .args .y) (c .before .args .z)) (c .before .args .function) (up (up (up (up (up (up (up (up zero-le (n .0 .0 .0 .0 .0 .0 .0 .1)) (n .0 .0 .0 .0 .0 .0 .1)) (n .0 .0 .0 .0 .0 .1)) (n .0 .0 .0 .0 .1)) (n .0 .0 .0 .1)) (n .0 .0 .1)) (n .0 .1)) (n .1)))
 
 pub result-spec : {M : Type 1} → statement M
 result-spec =
@@ -144,21 +127,18 @@ result-spec =
     (tie.spec
     mul-add-requires
     to-bits-requires
-    round-requires
+    to-whole-requires
     double-of-requires
     to-bits-requires-2
-    floor-requires
+    to-whole-requires-2
     double-of-requires-2
     to-bits-requires-3
-    ceil-requires
+    to-whole-requires-3
     double-of-requires-3
     to-bits-requires-4
-    round-ties-away-requires
-    to-bits-requires-5
     within-one-ulp-requires
     one-of-requires
-    to-bits-requires-6
-    through-bytes-requires
+    to-bits-requires-5
     is-finite-requires
     one-of-requires-2
     is-positive-requires
@@ -171,6 +151,4 @@ result-spec =
     returns-6
     returns-7
     returns-8
-    returns-9
-    returns-10
-    returns-11)
+    returns-9)

@@ -1,4 +1,4 @@
--- `binary64::to_whole` meets its contract: each way out is a law of `PartsLaws`. Assumes nothing.
+-- `arithmetic::to_whole` meets its contract: each way out is a law of `WholeLaws`. Assumes nothing.
 use mathlib.Core.Path.{_≡_, sym, _∙_, subst}
 use mathlib.Core.Bool.{true}
 use native.Mathlib.Nat.{lt-of-le-of-lt}
@@ -7,10 +7,11 @@ use lib.Ieee.Scale.{finite}
 use mir.Syntax.{w64}
 use mir.ValLaws.{toZ-ofZ}
 use borrow.Author.Needs.{needs}
 use Rattle.binary64.specs.Whole.{rounded}
-use Rattle.binary64.proofs.PartsLaws.{toward-fits, toward-parts, whole-none, whole-beyond, whole-at}
-use Rattle.binary64.proofs.to_whole.Statement.{statement}
-use Rattle.binary64.proofs.to_whole.Tie as tie
+use Rattle.binary64.proofs.PartsLaws.{toward-fits, toward-parts}
+use Rattle.arithmetic.proofs.WholeLaws.{whole-none, whole-beyond, whole-at}
+use Rattle.arithmetic.proofs.to_whole.Statement.{statement}
+use Rattle.arithmetic.proofs.to_whole.Tie as tie
 
 is-finite-requires : tie.Need-is-finite-requires
 is-finite-requires c κs = search needs
