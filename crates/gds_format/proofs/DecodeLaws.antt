@@ -31,13 +31,13 @@ use Rattle.gds_format.proofs.Real8Laws.{faithful}
 
 -- ---- the same whole number
 
-same-is : (a b : ℤ) → T (sameInt a b) → a ≡ b
+pub same-is : (a b : ℤ) → T (sameInt a b) → a ≡ b
 same-is (pos a) (pos b) t = ap pos (eqb→eq a b t)
 same-is (pos a) (negsuc b) t = absurd t
 same-is (negsuc a) (pos b) t = absurd t
 same-is (negsuc a) (negsuc b) t = ap negsuc (eqb→eq a b t)
 
-same-own : (a : ℤ) → sameInt a a ≡ true
+pub same-own : (a : ℤ) → sameInt a a ≡ true
 same-own (pos a) = eq-eqb a a refl
 same-own (negsuc a) = eq-eqb a a refl
 

@@ -1,0 +1,10 @@
+-- The guards.
+pub mod ToldLaws
+pub mod AlikeLaws
+pub mod DecidedLaws
+pub mod Clauses
+pub mod Bites
+pub mod EdgesLaws
+pub mod ReadingLaws
+pub mod OrderLaws
+pub mod Whole

@@ -1,0 +1,201 @@
+-- Demand 3's comparison told a second time, as tests that compute (document 01, "What a structure draws", its last paragraph; the bounds are the demand's). Bounds and formulas stand
+-- written out: nothing is taken from cell/specs/Draws or conversion/specs/Close. A structure draws a cell exactly where it passes (proofs/ToldLaws, AlikeLaws, DecidedLaws), so a clause
+-- that is weakened or added on one side alone is refused. Assumes nothing.
+use mathlib.Core.Bool.{Bool, true, false, not, _&&_}
+use mathlib.Core.Option.{Option, none, some}
+use mathlib.Core.List.{List, [], _∷_}
+use Prim.Native.Nat.{ℕ, zero, suc, _+_, _*_}
+use lib.Dec.{leb, ltb, eqb}
+use lib.IntN.{ℤ, pos, natAbs, _+ℤ_, _-ℤ_, _*ℤ_}
+use lib.Ieee.{Float}
+use lib.Ieee.Scale.{finite}
+use Rattle.binary64.specs.Value.{scaled, sameInt}
+use Rattle.units.specs.declared.Unit.{Unit}
+use Rattle.units.specs.Point.{Point}
+use Rattle.units.specs.Physical.{physical, passed}
+use Rattle.conversion.specs.declared.GdsRoundingPolicy.{GdsRoundingPolicy}
+use Rattle.conversion.specs.declared.GdsRoundingPolicy.the-variants.{Nearest, Floor, Ceil, ErrorIfOffGrid}
+use Rattle.conversion.specs.Array.{spacingAt, turned}
+use Rattle.conversion.specs.Policy.{policyOf}
+use Rattle.sheet.specs.Element as S
+use Rattle.sheet.specs.Cell.{Cell, cellOf}
+use Rattle.stream.specs.Strings.{trimmed}
+use Rattle.stream.specs.Structure as D
+use Rattle.stream.specs.Drawn.{Transform, Worth, Drawn, drawnOf}
+use Rattle.stream.specs.Read.{structureOf}
+use Rattle.cases.specs.Case.{sameBytes}
+
+-- ---- tests, and what all of them say
+
+abbrev pub Tests : Type 0
+Tests = List Bool
+
+abbrev pub all : Tests → Bool
+all [] = true
+all (t ∷ ts) = t && all ts
+
+-- ---- lists, options, flags, and every number below n
+
+abbrev pub each : {A B : Type 0} → (A → B → Tests) → List A → List B → Bool
+each t [] [] = true
+each t [] (b ∷ bs) = false
+each t (a ∷ s) [] = false
+each t (a ∷ s) (b ∷ bs) = all (t a b) && each t s bs
+
+abbrev pub both : {A B : Type 0} → (A → B → Tests) → Option A → Option B → Bool
+both t none none = true
+both t none (some b) = false
+both t (some a) none = false
+both t (some a) (some b) = all (t a b)
+
+abbrev pub same : Bool → Bool → Bool
+same true b = b
+same false b = not b
+
+abbrev pub below : ℕ → (ℕ → Bool) → Bool
+below zero t = true
+below (suc n) t = below n t && t n
+
+-- ---- how near: in 2 ^ -22 of the database unit, half of it or all of it, and 1; strict 4
+
+abbrev pub allowed : GdsRoundingPolicy → ℕ
+allowed Nearest = 2097153
+allowed Floor = 4194305
+allowed Ceil = 4194305
+allowed ErrorIfOffGrid = 4
+
+abbrev pub near : ℕ → Float → ℤ → ℤ → Bool
+near n d P q = leb (natAbs (q *ℤ scaled d -ℤ P) * 4194304) (n * natAbs (scaled d))
+
+-- ---- properties and transforms
+
+abbrev pub property : S.Property → D.Property → Tests
+property p q = eqb (p .attribute) (q .attribute) ∷ sameBytes (trimmed (p .value)) (q .value) ∷ []
+
+abbrev pub transform : Bool → Float → Float → Transform → Tests
+transform r m a t =
+    same r (t .reflection)
+    ∷ finite m
+    ∷ finite a
+    ∷ sameInt (scaled m) (t .magnification)
+    ∷ sameInt (scaled a) (t .degrees)
+    ∷ []
+
+-- ---- elements
+
+-- what is drawn, by its kind
+abbrev pub byKind : (D.Shape → Tests) → (D.Path → Tests) → (D.Text ℕ Transform → Tests) → (D.Shape → Tests) → (D.Sref Transform → Tests) → (D.Aref Transform → Tests) → D.Body ℕ Transform → Tests
+byKind b p t n s a (D.boundary w) = b w
+byKind b p t n s a (D.path w) = p w
+byKind b p t n s a (D.text w) = t w
+byKind b p t n s a (D.node w) = n w
+byKind b p t n s a (D.sref w) = s w
+byKind b p t n s a (D.aref w) = a w
+
+abbrev pub never : {A : Type 0} → A → Tests
+never a = false ∷ []
+
+abbrev pub pathType : ℕ → ℕ → Tests
+pathType t u = eqb t u ∷ []
+
+abbrev turnedBy : S.Reference → Option (Point Unit) → Point Float
+turnedBy e s = turned (e .sine) (e .cosine) (spacingAt s)
+
+module _ (r : GdsRoundingPolicy) (d : Float) where
+  abbrev pub coordinateBy : Option ℤ → Float → ℤ → Tests
+  coordinateBy none p q = finite p ∷ near (allowed r) d (scaled p) q ∷ []
+  coordinateBy (some v) p q = sameInt q v ∷ []
+
+  abbrev pub coordinate : Unit → ℤ → Tests
+  coordinate u q = coordinateBy (passed d u) (physical u) q
+
+  abbrev pub point : Point Unit → Point ℤ → Tests
+  point p q = all (coordinate (p .x) (q .x)) ∷ all (coordinate (p .y) (q .y)) ∷ []
+
+  -- instance (i, j) of an array, and all of them, on one axis
+  abbrev pub instance : Float → Float → Float → ℤ → ℤ → ℤ → ℕ → ℕ → Bool
+  instance po pa pb o a b i j =
+      near ((1 + i + j) * allowed r) d (scaled po +ℤ pos i *ℤ scaled pa +ℤ pos j *ℤ scaled pb) (o +ℤ pos i *ℤ a +ℤ pos j *ℤ b)
+
+  abbrev pub instances : ℕ → ℕ → Float → Float → Float → ℤ → ℤ → ℤ → Tests
+  instances columns rows po pa pb o a b =
+      finite po
+      ∷ finite pa
+      ∷ finite pb
+      ∷ below columns (λ i. below rows (λ j. instance po pa pb o a b i j))
+      ∷ []
+
+  abbrev pub shape : S.Shape → D.Shape → Tests
+  shape e w = eqb (e .layer) (w .layer) ∷ eqb (e .datatype) (w .datatype) ∷ each point (e .points) (w .points) ∷ []
+
+  abbrev pub path : S.Path → D.Path → Tests
+  path e w =
+      eqb (e .layer) (w .layer)
+      ∷ eqb (e .datatype) (w .datatype)
+      ∷ both pathType (e .pathType) (w .pathType)
+      ∷ both coordinate (e .width) (w .width)
+      ∷ both coordinate (e .begin) (w .begin)
+      ∷ both coordinate (e .end) (w .end)
+      ∷ each point (e .points) (w .points)
+      ∷ []
+
+  abbrev pub text : S.Text → D.Text ℕ Transform → Tests
+  text e w =
+      eqb (e .layer) (w .layer)
+      ∷ eqb (e .texttype) (w .texttype)
+      ∷ eqb (4 * e .vertical + e .horizontal) (w .presentation)
+      ∷ all (transform (e .reflection) (e .magnification) (e .degrees) (w .transform))
+      ∷ all (point (e .origin) (w .origin))
+      ∷ sameBytes (trimmed (e .string)) (w .string)
+      ∷ []
+
+  abbrev pub sref : S.Reference → D.Sref Transform → Tests
+  sref e w =
+      eqb (e .columns) 1
+      ∷ eqb (e .rows) 1
+      ∷ sameBytes (trimmed (e .name)) (w .name)
+      ∷ all (transform (e .reflection) (e .magnification) (e .degrees) (w .transform))
+      ∷ all (point (e .origin) (w .origin))
+      ∷ []
+
+  abbrev pub aref : S.Reference → D.Aref Transform → Tests
+  aref e w =
+      not (eqb (e .columns) 1 && eqb (e .rows) 1)
+      ∷ sameBytes (trimmed (e .name)) (w .name)
+      ∷ all (transform (e .reflection) (e .magnification) (e .degrees) (w .transform))
+      ∷ eqb (e .columns) (w .columns)
+      ∷ eqb (e .rows) (w .rows)
+      ∷ all (instances (e .columns) (e .rows) (physical (e .origin .x)) (turnedBy e (e .columnSpacing) .x) (turnedBy e (e .rowSpacing) .x) (w .origin .x) (w .columnStep .x) (w .rowStep .x))
+      ∷ all (instances (e .columns) (e .rows) (physical (e .origin .y)) (turnedBy e (e .columnSpacing) .y) (turnedBy e (e .rowSpacing) .y) (w .origin .y) (w .columnStep .y) (w .rowStep .y))
+      ∷ []
+
+  -- of the same kind
+  abbrev pub body : S.Body → D.Body ℕ Transform → Tests
+  body (S.polygon e) = byKind (shape e) never never never never never
+  body (S.path e) = byKind never (path e) never never never never
+  body (S.text e) = byKind never never (text e) never never never
+  body (S.node e) = byKind never never never (shape e) never never
+  body (S.reference e) = byKind never never never never (sref e) (aref e)
+
+  abbrev pub element : S.Element → Worth → Tests
+  element e w = all (body (e .body) (w .body)) ∷ each property (e .properties) (w .properties) ∷ []
+
+  -- ---- the cell
+
+  abbrev pub told : Cell → Drawn → Tests
+  told c s = sameBytes (trimmed (c .head .name)) (s .name) ∷ each element (c .elements) (s .elements) ∷ []
+
+-- ---- the whole: a policy, the cell that a sheet holds, bytes that are read alone
+
+abbrev pub allBytes : List ℕ → Bool
+allBytes [] = true
+allBytes (b ∷ s) = ltb b 256 && allBytes s
+
+abbrev pub toldOf : Float → Option GdsRoundingPolicy → Option Cell → Option D.Structure → Bool
+toldOf d none c s = false
+toldOf d (some r) none s = false
+toldOf d (some r) (some c) none = false
+toldOf d (some r) (some c) (some s) = all (told r d c (drawnOf s))
+
+abbrev pub draws : ℕ → Float → List ℕ → List ℕ → Bool
+draws policy d sheet b = allBytes b && toldOf d (policyOf policy) (cellOf sheet) (structureOf b)
