@@ -64,7 +64,9 @@ module _ (p d : Float) (P : T (fits binary64 p)) (D : T (fits binary64 d)) (a : 
 
   pub rounded-close : (policy : GdsRoundingPolicy) (q : ℤ) → Yields (rounded policy s) q → T (inRange q) → Close (allowance policy) d (scaled p) q
   unfolding rounded
-  rounded-close Nearest q y r = rounds-close p d P D a b c (2 ^ 21) q (lit≤ tt) r (subst (λ (z : ℤ). Rounds s (2 ^ 21) z) (made-yields y) (nearest-rounds s))
+  rounded-close Nearest q y r =
+      close-wider (2 ^ 21 + 1) (allowance Nearest) d (scaled p) q (lit≤ tt)
+      (rounds-close p d P D a b c (2 ^ 21) q (lit≤ tt) r (subst (λ (z : ℤ). Rounds s (2 ^ 21) z) (made-yields y) (nearest-rounds s)))
   rounded-close Floor q y r = either (onGrid s) (floorOf s) q refl (floor-rounds s) (made-yields y) r
   rounded-close Ceil q y r = either (onGrid s) (ceilOf s) q refl (ceil-rounds s) (made-yields y) r
   rounded-close ErrorIfOffGrid q y r =

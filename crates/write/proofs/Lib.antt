@@ -10,3 +10,4 @@ pub mod CellLaws
 pub mod StructureLaws
 pub mod RoomLaws
 pub mod EdgesLaws
+pub mod StayLaws
