@@ -6,12 +6,13 @@ use lib.Ieee.{Float}
 use Rattle.conversion.specs.declared.GdsRoundingPolicy.{GdsRoundingPolicy}
 use Rattle.conversion.specs.declared.Entry.{Entry}
 use Rattle.conversion.specs.Made.{Made, pure, _>>=_}
+use Rattle.conversion.proofs.MadeLaws.{steps}
 use Rattle.stream.specs.Structure as D
 use Rattle.cell.specs.Write.{writePolygon, writePath, writeText, writeNode, writeReference, writeBody}
 use Rattle.writing.specs.declared.Measured.{Measured}
 use Rattle.writing.specs.declared.Written.{Written}
-use Rattle.writing.specs.Steps.{Measures, Writes}
-use Rattle.writing.proofs.StepLaws.{measure-wrapped, write-wrapped}
+use Rattle.writing.specs.Steps.{Measures, Succeeds, Writes}
+use Rattle.writing.proofs.StepLaws.{yields, succeeds, measure-wrapped, write-wrapped}
 use Rattle.forms.specs.declared.ShapePlaces.{ShapePlaces}
 use Rattle.forms.specs.declared.PathPlaces.{PathPlaces}
 use Rattle.forms.specs.declared.TextPlaces.{TextPlaces}
@@ -32,13 +33,15 @@ body-in-as b e w = subst (BodyIn b) e w
 -- measured or written, the step n of a body answers as the step m of its kind does
 pub record As {A : Type 0} (bytes : A → List ℕ) (m : Made A) (n : Made D.SaidBody) : Type 0 where
   pub measures : (e : Entry) (r : Measured) → Measures bytes e m r → Measures bodyBytes e n r
-  pub writes : (e : Entry) (at : ℕ) (before after : List ℕ) (r : Written) → Writes bytes e m at before after r → Writes bodyBytes e n at before after r
+  pub accepts : Succeeds n → Succeeds m
+  pub writes : {e : Entry} {at : ℕ} {before after : List ℕ} {r : Written} → Writes bytes e m at before after r → Writes bodyBytes e n at before after r
 
 wrapped : {A : Type 0} (bytes : A → List ℕ) (wrap : A → D.SaidBody) → ((a : A) → bodyBytes (wrap a) ≡ bytes a) → (m : Made A) → As bytes m (m >>= λ a. pure (wrap a))
 wrapped bytes wrap kept m =
     record {
-      measures = λ e r h. measure-wrapped bytes bodyBytes wrap kept e m r h;
-      writes = λ e at before after r h. write-wrapped bytes bodyBytes wrap kept e m at before after r h;
+      measures = λ e r h. measure-wrapped bytes bodyBytes wrap e m kept r h;
+      accepts = λ s. succeeds (steps (yields s) .first);
+      writes = λ {e} w. write-wrapped bytes bodyBytes wrap e m kept w;
     }
 
 -- the body at p, where it is of that kind
@@ -64,4 +67,4 @@ module _ (policy : GdsRoundingPolicy) (d : Float) (b : List ℕ) where
 
   pub reference-as : {p : BodyPlaces} (s : ReferencePlaces) → p ≡ B.Reference s → Kind referenceBytes (writeReference policy d (referenceAt b s)) p
   unfolding writeBody bodyBytes referenceBytes
-  reference-as s g = subst (Kind referenceBytes (writeReference policy d (referenceAt b s))) (sym g) (record { measures = λ e r h. h; writes = λ e at before after r h. h })
+  reference-as s g = subst (Kind referenceBytes (writeReference policy d (referenceAt b s))) (sym g) (record { measures = λ e r h. h; accepts = λ s. s; writes = λ w. w })

@@ -1,4 +1,5 @@
 -- One block of the sheet measured and written, by the definition of writing an element (cell/specs/Write). Assumes nothing.
+use mathlib.Core.Path.{_≡_}
 use mathlib.Core.Option.{Option, none, some}
 use mathlib.Core.List.{List, []}
 use Prim.Native.Nat.{ℕ, _+_, _*_, _≤_}
@@ -7,7 +8,7 @@ use lib.Ieee.{Float}
 use Rattle.refusal.specs.declared.Refusal.the-variants as R
 use Rattle.conversion.specs.declared.GdsRoundingPolicy.{GdsRoundingPolicy}
 use Rattle.conversion.specs.Fold.{blankEntry, run}
-use Rattle.sheet.specs.Element.{Element, kindOf}
+use Rattle.sheet.specs.Element.{Element, kindOf, elementOf}
 use Rattle.stream.specs.Structure.{SaidBody}
 use Rattle.stream.specs.Record.{streamBytes}
 use Rattle.stream.specs.Records.{bodyRecords, elementBytes}
@@ -15,7 +16,8 @@ use Rattle.cell.specs.Write.{writeElement}
 use Rattle.cell.specs.Order.{Accepted}
 use Rattle.writing.specs.declared.Measured.{Measured}
 use Rattle.writing.specs.declared.Measured.the-variants as M
-use Rattle.writing.specs.Steps.{sizing, Outcome, stopped, putting}
+use Rattle.writing.specs.declared.Written.{Written}
+use Rattle.writing.specs.Steps.{sizing, Writes}
 use Rattle.forms.specs.declared.BodyPlaces.{BodyPlaces}
 use Rattle.forms.specs.declared.BodyPlaces.the-variants as B
 use Rattle.forms.specs.Forms.{pathAt}
@@ -49,12 +51,13 @@ abbrev pub Short : ℕ → Measured → Type 0
 Short n (M.Refused r) = Unit {0}
 Short n (M.Through length e) = length ≤ 84 + 4 * n
 
--- its bytes at the start of the part of the output that it is lent, and its entry
-unfoldable pub writtenBlock : GdsRoundingPolicy → Float → ℕ → List ℕ → Option Element → Outcome
-writtenBlock policy d i before none = stopped R.Form
-writtenBlock policy d i before (some e) = run stopped (blankEntry i (kindOf (e .body))) (writeElement policy d e) (putting elementBytes 0 before)
-
 -- no check refuses the block's element, and n bytes hold its own
 pub record Fits (policy : GdsRoundingPolicy) (d : Float) (b : List ℕ) (n : ℕ) : Type 0 where
   pub accepted : Accepted policy d b
   pub room : length (elementBytes (accepted .said)) ≤ n
+
+-- then its bytes are written at the start of the part of the output that it is lent, and its entry is answered
+pub record WritesBlock (policy : GdsRoundingPolicy) (d : Float) (i : ℕ) (b before after : List ℕ) (r : Written) : Type 0 where
+  pub element : Element
+  pub held : elementOf b ≡ some element
+  pub writes : Writes elementBytes (blankEntry i (kindOf (element .body))) (writeElement policy d element) 0 before after r

@@ -14,8 +14,8 @@ ghost use Rattle.sheet.specs.Element.{kindOf, elementOf};
 ghost use Rattle.stream.specs.Records.{elementBytes};
 ghost use Rattle.cell.specs.Write.{writeBody, writeElement};
 ghost use Rattle.forms.specs.Forms.{bodyAt, propertiesAt, BodyIn, ElementIn};
-ghost use Rattle.writing.specs.Steps.{Measures, Writes, Owes};
-ghost use Rattle.elements.specs.Block.{bodyBytes, bodyLength, measuredBlock, Short, writtenBlock, Fits};
+ghost use Rattle.writing.specs.Steps.{Measures, Succeeds, Writes};
+ghost use Rattle.elements.specs.Block.{bodyBytes, bodyLength, measuredBlock, Short, Fits, WritesBlock};
 
 // The kinds of the report's entries.
 const POLYGON: u8 = 1;
@@ -141,6 +141,7 @@ fn put_body(
     entry: Entry,
 ) -> Written
     requires { ⌜ BodyIn (now b) body ⌝ }
+    requires { ⌜ Succeeds (writeBody policy d (bodyAt (now b) body)) ⌝ }
     requires { ⌜ entry .count ≤ 13 ⌝ }
     requires { ⌜ bodyLength (now b) body ≤ length (now part) ⌝ }
     ensures { λ r. ⌜ Writes bodyBytes entry (writeBody policy d (bodyAt (now (b .entry)) body)) 0 (now (part .entry)) (now (part .exit)) r ⌝ }
@@ -171,25 +172,23 @@ pub fn put_element(
     part: &mut [u8],
 ) -> Written
     requires { ⌜ Fits policy d (now b) (length (now part)) ⌝ }
-    ensures { λ r. ⌜ Owes (writtenBlock policy d index (now (part .entry)) (elementOf (now (b .entry)))) (now (part .exit)) r ⌝ }
+    ensures { λ r. ⌜ WritesBlock policy d index (now (b .entry)) (now (part .entry)) (now (part .exit)) r ⌝ }
 {
-    match forms::element(b) {
-        ElementForm::Ill => Written::Refused {
-            refusal: Refusal::Form,
-        },
-        ElementForm::Element { body, properties } => {
-            let kind = kind_of(b, body);
-            match put_body(policy, d, b, body, part, Entry::blank(index, kind)) {
-                Written::Refused { refusal } => Written::Refused { refusal },
-                Written::Through { to, entry } => properties::put_tail(
-                    b,
-                    properties.place,
-                    properties.count,
-                    part,
-                    to,
-                    entry,
-                ),
-            }
-        }
-    }
+    let ElementForm::Element { body, properties } = forms::element(b) else {
+        // Never: the block holds an element.
+        return Written {
+            to: 0,
+            entry: Entry::blank(index, 0),
+        };
+    };
+    let kind = kind_of(b, body);
+    let written = put_body(policy, d, b, body, part, Entry::blank(index, kind));
+    properties::put_tail(
+        b,
+        properties.place,
+        properties.count,
+        part,
+        written.to,
+        written.entry,
+    )
 }

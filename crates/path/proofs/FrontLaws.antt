@@ -18,17 +18,20 @@ use Rattle.big_endian.specs.Big.{numberAt}
 use Rattle.conversion.specs.declared.Entry.{Entry}
 use Rattle.conversion.specs.declared.GdsRoundingPolicy.{GdsRoundingPolicy}
 use Rattle.conversion.specs.Made.{Made, pure, need, _>>=_, _>>_}
-use Rattle.conversion.specs.Fold.{notedAll, run}
+use Rattle.conversion.specs.Fold.{blankEntry, notedAll, run}
 use Rattle.conversion.specs.Convert.{convertUnit}
 use Rattle.conversion.specs.Points.{spot, writePoints, writeLength}
 use Rattle.conversion.specs.Field.{widthField, beginField, endField, noAxis}
 use Rattle.conversion.proofs.FoldLaws.{run-bind, run-then, run-pure, run-need, run-unmet, run-map, run-same}
+use Rattle.conversion.proofs.MadeLaws.{steps}
 use Rattle.sheet.specs.Form.{absentKind}
 use Rattle.sheet.specs.Element as S
 use Rattle.stream.specs.Structure as D
 use Rattle.records.specs.Bytes.{optionOf}
 use Rattle.writing.specs.Ready.{Ready, stopped, ready}
-use Rattle.writing.proofs.ReadyLaws.{ready-stops, ready-goes-on}
+use Rattle.writing.specs.Steps.{Succeeds}
+use Rattle.writing.proofs.StepLaws.{yields, succeeds, past-check, past-checks}
+use Rattle.writing.proofs.ReadyLaws.{ready-stops, ready-goes-on, succeeds-as, never-stopped}
 use Rattle.cell.specs.Limits.{within, minPathPoints, maxPoints, maxLayer, maxDataType}
 use Rattle.cell.specs.Write.{isSome, layerAndType, writePath}
 use Rattle.forms.specs.Place.{unitAt, coordinateAt}
@@ -235,3 +238,27 @@ module _ (policy : GdsRoundingPolicy) (d : Float) (p : S.Path) where
       go true true x y = (leb-true 2 (length (p .points)) x, leb-true (length (p .points)) 8191 y)
       go true false x y = no (ap₂ _&&_ x y)
       go false t x y = no (ap₂ _&&_ x y)
+
+  -- ---- where the path succeeds, its front does, which is its lengths, and so do its points
+
+  module _ (s : Succeeds (writePath policy d p)) where
+    both-steps : Succeeds (writeFront policy d p >>= rest stopped (blankEntry 0 0) ready)
+    both-steps = succeeds-as (blankEntry 0 0) (writePath policy d p) _ (path-is stopped (blankEntry 0 0) ready) s
+
+    front-succeeds : Succeeds (writeFront policy d p)
+    front-succeeds = succeeds (steps (yields both-steps) .first)
+
+    pub points-succeed : Succeeds (writePoints policy d 0 (p .points))
+    points-succeed = succeeds (steps (steps (yields both-steps) .then) .first)
+
+    past : writeFront policy d p ≡ writeExtent policy d p
+    unfolding writeFront layerAndType
+    past =
+        let h = past-check (within minPathPoints (length (p .points)) maxPoints) R.PointCount _ front-succeeds in
+        h ∙ past-checks (leb (p .layer) maxLayer) R.LayerOrType (leb (p .datatype) maxDataType) R.LayerOrType _ (subst Succeeds h front-succeeds)
+
+    pub front-past : {e : Entry} {r : Lengths} → GivesExtent p e (writeExtent policy d p) r → GivesExtent p e (writeFront policy d p) r
+    front-past {e} {r} g = subst (λ (m : Made Extent). GivesExtent p e m r) (sym past) g
+
+    pub front-never : {X : Type 0} {e : Entry} {r : Lengths} {x : Refusal} → GivesExtent p e (writeFront policy d p) r → r ≡ F.Refused x → X
+    front-never {e = e} {x = x} h g = never-stopped e (writeFront policy d p) x front-succeeds (ap extentOf (sym g) ∙ h .is)

@@ -1,5 +1,5 @@
 -- Measuring and writing a path: each way out of the code, and the length of what the definition gives. Assumes nothing.
-use mathlib.Core.Path.{_≡_, refl, sym, ap, ap₂, _∙_, subst}
+use mathlib.Core.Path.{_≡_, refl, sym, ap, ap₂, _∙_}
 use mathlib.Core.Bool.{Bool}
 use mathlib.Core.Option.{Option, none, some}
 use mathlib.Core.List.{List, [], _∷_, _++_}
@@ -28,9 +28,8 @@ use Rattle.records.specs.Bytes.{Placed, optionOf}
 use Rattle.writing.specs.declared.Measured.{Measured}
 use Rattle.writing.specs.declared.Measured.the-variants as M
 use Rattle.writing.specs.declared.Written.{Written}
-use Rattle.writing.specs.declared.Written.the-variants as O
-use Rattle.writing.specs.Steps.{sizing, Measures, Outcome, stopped, written, putting, Owes, Writes}
-use Rattle.writing.proofs.StepLaws.{run-through}
+use Rattle.writing.specs.Steps.{sizing, Measures, Writes}
+use Rattle.writing.proofs.StepLaws.{run-through, stopped, written, putting, writes, outcome-of}
 use Rattle.cell.specs.Write.{isSome, writePath}
 use Rattle.points.specs.declared.Walked.{Walked}
 use Rattle.points.specs.declared.Walked.the-variants as W
@@ -48,9 +47,6 @@ module _ (policy : GdsRoundingPolicy) (d : Float) (p : S.Path) (e : Entry) (r : 
 
   pub measure-refused : (x : Refusal) → r ≡ F.Refused x → Measures pathBytes e (writePath policy d p) (M.Refused x)
   measure-refused x g = front-stops policy d p M.Refused e (sizing pathBytes) r h x g
-
-  pub write-refused : (at : ℕ) (before after : List ℕ) (x : Refusal) → r ≡ F.Refused x → Writes pathBytes e (writePath policy d p) at before after (O.Refused x)
-  write-refused at before after x g = subst (λ (o : Outcome). Owes o after (O.Refused x)) (front-stops policy d p stopped e (putting pathBytes at before) r h x g) refl
 
   -- ---- after the front
   module _ (w : Bool) (q1 : ℤ) (b : Bool) (q2 : ℤ) (n : Bool) (q3 : ℤ) (e′ : Entry) (g : r ≡ F.At w q1 b q2 n q3 e′) where
@@ -111,10 +107,15 @@ module _ (policy : GdsRoundingPolicy) (d : Float) (p : S.Path) (e : Entry) (r : 
 
       pub path-written : (last : List ℕ) (s : Written) → Writes pointsBytes e′ (writePoints policy d 0 (p .points)) to cur last s → Writes pathBytes e (writePath policy d p) at before last s
       path-written last s x =
-          subst (λ (o : Outcome). Owes o last s)
+          writes pathBytes e (writePath policy d p) at before last (s .to) (s .entry)
+          (sym
           (run-counted stopped policy d 0 (p .points) e′ (putting pointsBytes to cur) (λ ps e″. putting pathBytes at before (drawn policy d p l ps) e″) joined
           ∙ front-goes-on policy d p stopped e (putting pathBytes at before) r h w q1 b q2 n q3 e′ g)
-          x
+          ∙ outcome-of pointsBytes e′ (writePoints policy d 0 (p .points)) to cur last x)
+          (go (s .to) _ _ (x .wrote .count) (x .wrote .fits) (u .long))
+        where
+          go : (k m c : ℕ) → k ≡ to + m → to + m ≤ c → c ≡ length before → k ≤ length before
+          go k m c f g h = omega arith
 
 -- ---- what comes out is there as on the sheet: what follows may count on it
 

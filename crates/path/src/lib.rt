@@ -8,7 +8,7 @@ ghost use Rattle.stream.specs.Record.{streamBytes};
 ghost use Rattle.conversion.specs.Points.{writeLength};
 ghost use Rattle.cell.specs.Write.{isSome, writePath};
 ghost use Rattle.records.specs.Bytes.{Placed, optionOf};
-ghost use Rattle.writing.specs.Steps.{Measures, Writes};
+ghost use Rattle.writing.specs.Steps.{Measures, Succeeds, Writes};
 ghost use Rattle.forms.specs.Place.{coordinateAt};
 ghost use Rattle.forms.specs.Forms.{pathTypeOf, pathAt, PathIn};
 ghost use Rattle.path.specs.Front.{extent, writeExtent, writeFront, GivesLength, GivesExtent};
@@ -312,12 +312,14 @@ pub fn put_path(
     entry: Entry,
 ) -> Written
     requires { ⌜ PathIn (now b) path ⌝ }
+    requires { ⌜ Succeeds (writePath policy d (pathAt (now b) path)) ⌝ }
     requires { ⌜ entry .count ≤ 13 ⌝ }
     requires { ⌜ start + pathLength (pathAt (now b) path) ≤ length (now out) ⌝ }
     ensures { λ r. ⌜ Writes pathBytes entry (writePath policy d (pathAt (now (b .entry)) path)) start (now (out .entry)) (now (out .exit)) r ⌝ }
 {
-    match convert_front(policy, d, b, path, entry) {
-        Lengths::Refused { refusal } => Written::Refused { refusal },
+    match convert_lengths(policy, d, b, path, entry) {
+        // Never: no length is refused.
+        Lengths::Refused { refusal: _ } => Written { to: start, entry },
         Lengths::At {
             wide,
             width,

@@ -1,23 +1,21 @@
 -- What an answer with the ends of the points says of its step: its value, whose points have these ends, or its refusal. Assumes nothing.
-use mathlib.Core.Path.{_≡_, refl, sym, ap, ap₂, _∙_, subst}
+use mathlib.Core.Path.{_≡_, refl, sym, ap, ap₂, _∙_}
 use mathlib.Core.List.{List, [], _∷_}
-use Prim.Native.Nat.{ℕ, _+_}
+use Prim.Native.Nat.{ℕ}
 use native.Mathlib.Omega.{arith}
 use lib.ListN.{length}
 use lib.IntN.{ℤ}
 use Rattle.refusal.specs.declared.Refusal.{Refusal}
 use Rattle.units.specs.Point.{Point}
-use Rattle.big_endian.specs.Buffer.{splice}
 use Rattle.conversion.specs.declared.Deviation.{Deviation}
 use Rattle.conversion.specs.declared.Entry.{Entry}
 use Rattle.conversion.specs.Made.{Made, refused, made}
 use Rattle.conversion.specs.Fold.{notedAll, run}
 use Rattle.writing.specs.declared.Measured.the-variants as M
-use Rattle.writing.specs.declared.Written.the-variants as O
-use Rattle.writing.specs.Steps.{sizing, Measures, putting, Writes}
+use Rattle.writing.specs.Steps.{sizing, Measures}
 use Rattle.points.specs.declared.Walked.{Walked}
 use Rattle.points.specs.declared.Walked.the-variants as W
-use Rattle.points.specs.Walk.{through, walked, putEnds, Puts}
+use Rattle.points.specs.Walk.{through, walked}
 
 -- ---- the ends are no refusal, and leave the entry as it is
 
@@ -39,10 +37,6 @@ pub record Met {A : Type 0} (points : A → List (Point ℤ)) (e : Entry) (m : M
   pub makes : m ≡ made value deviations
   pub answers : r ≡ walked (points value) (notedAll e deviations)
 
-pub record PutMet {A : Type 0} (points : A → List (Point ℤ)) (bytes : A → List ℕ) (e : Entry) (m : Made A) (at : ℕ) (before after : List ℕ) (r : Walked) : Type 0 where
-  pub met : Met points e m r
-  pub out : after ≡ splice at (bytes (met .value)) before
-
 module _ {A : Type 0} (points : A → List (Point ℤ)) (e : Entry) where
   abbrev ends : A → Entry → Walked
   ends a e′ = walked (points a) e′
@@ -57,18 +51,7 @@ module _ {A : Type 0} (points : A → List (Point ℤ)) (e : Entry) where
   measured-refused (refused y) r x h g = cc
   measured-refused (made a vs) r x h g = absurd (never (points a) (notedAll e vs) x (sym h ∙ g))
 
-  module _ (bytes : A → List ℕ) (at : ℕ) (before after : List ℕ) where
-    pub put-met : (m : Made A) (r : Walked) (x0 y0 x1 y1 : ℤ) (e′ : Entry) → Puts bytes ends e m at before after r → r ≡ W.Through x0 y0 x1 y1 e′ → PutMet points bytes e m at before after r
-    unfolding run putEnds
-    put-met (refused x) r x0 y0 x1 y1 e′ h g = let z : _≡_ {A = ℕ} 0 1 = cc in absurd (omega arith)
-    put-met (made a vs) r x0 y0 x1 y1 e′ h g = record { met = record { value = a; deviations = vs; makes = refl; answers = h .1 }; out = h .0 }
-
-    pub put-refused : (m : Made A) (r : Walked) (x : Refusal) → Puts bytes ends e m at before after r → r ≡ W.Refused x → m ≡ refused x
-    unfolding run putEnds
-    put-refused (refused y) r x h g = cc
-    put-refused (made a vs) r x h g = absurd (never (points a) (notedAll e vs) x (sym (h .1) ∙ g))
-
--- ---- the same as an answer of measuring or writing
+-- ---- the same as an answer of measuring
 
 module _ {A : Type 0} (bytes : A → List ℕ) (e : Entry) (m : Made A) where
   pub measure-stopped : (x : Refusal) → m ≡ refused x → Measures bytes e m (M.Refused x)
@@ -78,13 +61,3 @@ module _ {A : Type 0} (bytes : A → List ℕ) (e : Entry) (m : Made A) where
   pub measure-made : (a : A) (vs : List Deviation) (n : ℕ) (e′ : Entry) → m ≡ made a vs → n ≡ length (bytes a) → e′ ≡ notedAll e vs → Measures bytes e m (M.Through n e′)
   unfolding run sizing
   measure-made a vs n e′ h i j = ap₂ M.Through i j ∙ ap (λ (n : Made A). run M.Refused e n (sizing bytes)) (sym h)
-
-  module _ (at : ℕ) (before after : List ℕ) where
-    pub write-stopped : (x : Refusal) → m ≡ refused x → Writes bytes e m at before after (O.Refused x)
-    unfolding run
-    write-stopped x h = subst (λ (n : Made A). Writes bytes e n at before after (O.Refused x)) (sym h) refl
-
-    pub write-made : (a : A) (vs : List Deviation) (to : ℕ) (e′ : Entry) → m ≡ made a vs → after ≡ splice at (bytes a) before → to ≡ at + length (bytes a) → e′ ≡ notedAll e vs
-        → Writes bytes e m at before after (O.Through to e′)
-    unfolding run putting
-    write-made a vs to e′ h i j k = subst (λ (n : Made A). Writes bytes e n at before after (O.Through to e′)) (sym h) (i, ap₂ O.Through j k)

@@ -2,7 +2,7 @@
 use mathlib.Core.Path.{_≡_, refl, sym, ap, ap₂, _∙_, subst}
 use mathlib.Core.Bool.{true, false}
 use mathlib.Core.Option.{some}
-use mathlib.Core.List.{List, _++_}
+use mathlib.Core.List.{List, [], _++_}
 use Prim.Native.Nat.{ℕ, zero, suc, _+_, _-_, _*_, _≤_, _<_}
 use native.Mathlib.Omega.{arith}
 use lib.ListN.{length}
@@ -24,13 +24,13 @@ use Rattle.conversion.specs.Made.{Made, pure, _>>=_}
 use Rattle.conversion.specs.Fold.{notedAll, run}
 use Rattle.conversion.specs.Points.{writePoint, writePoints}
 use Rattle.stream.specs.Records.{longBytes, pointsBytes}
+use Rattle.writing.specs.Steps.{Writes}
 use Rattle.cell.specs.Write.{lastOf}
 use Rattle.sheet.specs.Form.{integerKind}
 use Rattle.forms.specs.Place.{valuesFrom, doubleAt, unitAt, pointAt, pointsFrom}
 use Rattle.forms.proofs.UnitLaws.{unit-integer}
-use Rattle.points.specs.declared.Walked.{Walked}
 use Rattle.points.specs.declared.Walked.the-variants as W
-use Rattle.points.specs.Walk.{through, walked, putEnds, Puts}
+use Rattle.points.specs.Walk.{through, walked}
 use Rattle.points.specs.Integers.{integerAt, integersAt, integersFrom, Passes, AllPass}
 
 -- ---- a coordinate, by the bits of its unit
@@ -91,11 +91,10 @@ module _ (policy : GdsRoundingPolicy) (d : Float) (b : List ℕ) (n from : ℕ) 
   pass-measured = ap (λ (m : Made (List (Point ℤ))). run W.Refused e m walked) (points-pure policy d b n 0 from h)
 
   -- and written
-  pub pass-put : (start : ℕ) (before after : List ℕ) (r : Walked) → after ≡ splice start (pointsBytes (integersFrom n b from)) before → r ≡ walked (integersFrom n b from) e
-      → Puts pointsBytes walked e (writePoints policy d 0 (pointsFrom n b from)) start before after r
-  unfolding run notedAll putEnds
-  pass-put start before after r i j =
-      subst (λ (m : Made (List (Point ℤ))). Puts pointsBytes walked e m start before after r) (sym (points-pure policy d b n 0 from h)) (i, j)
+  pub pass-put : {start to : ℕ} {before after : List ℕ} → WroteAt (pointsBytes (integersFrom n b from)) before after start to
+      → Writes pointsBytes e (writePoints policy d 0 (pointsFrom n b from)) start before after (record { to = to; entry = e })
+  unfolding notedAll
+  pass-put w = record { step = record { value = integersFrom n b from; deviations = []; makes = points-pure policy d b n 0 from h }; wrote = w; entry = refl }
 
 -- ---- the ends
 

@@ -1,5 +1,5 @@
 -- Points in turn: a turn of each loop, whatever is to follow, and how many points there are. Assumes nothing.
-use mathlib.Core.Path.{_≡_, refl, sym, ap, ap₂, _∙_}
+use mathlib.Core.Path.{_≡_, refl, sym, ap, ap₂, _∙_, subst}
 use mathlib.Core.List.{List, [], _∷_, _++_}
 use Prim.Native.Nat.{ℕ, zero, suc, _+_, _-_, _*_, _≤_, _<_}
 use native.Mathlib.Omega.{arith}
@@ -13,7 +13,7 @@ use Rattle.refusal.specs.declared.Refusal.{Refusal}
 use Rattle.units.specs.declared.Unit.{Unit}
 use Rattle.units.specs.Point.{Point}
 use Rattle.big_endian.specs.Buffer.{WroteAt}
-use Rattle.big_endian.proofs.BufferLaws.{at-turn, at-end}
+use Rattle.big_endian.proofs.BufferLaws.{at-turn, at-end, same-bytes}
 use Rattle.conversion.specs.declared.Deviation.{Deviation}
 use Rattle.conversion.specs.declared.Entry.{Entry}
 use Rattle.conversion.specs.declared.GdsRoundingPolicy.{GdsRoundingPolicy}
@@ -21,13 +21,14 @@ use Rattle.conversion.specs.Made.{Made, made}
 use Rattle.conversion.specs.Fold.{blankEntry, run}
 use Rattle.conversion.specs.Points.{writePoint, writePoints}
 use Rattle.conversion.proofs.FoldLaws.{run-bind, run-pure, run-map, run-same}
+use Rattle.conversion.proofs.MadeLaws.{steps}
 use Rattle.stream.specs.Records.{longBytes, pointsBytes}
-use Rattle.writing.proofs.StepLaws.{run-through}
+use Rattle.writing.specs.Steps.{Succeeds}
+use Rattle.writing.proofs.StepLaws.{run-through, yields, succeeds, written, putting}
 use Rattle.forms.specs.Place.{valuesFrom, pointAt, pointsFrom}
 use Rattle.points.specs.declared.Pointed.{Pointed}
 use Rattle.points.specs.declared.Pointed.the-variants as P
-use Rattle.points.specs.declared.Walked.the-variants as W
-use Rattle.points.specs.Walk.{pointed, Converts, through, walked, put, putEnds}
+use Rattle.points.specs.Walk.{pointed, Converts}
 
 -- a point by its bits, as code has it between two calls
 abbrev pub pointOf : ℕ → ℕ → Point ℤ
@@ -40,6 +41,13 @@ pub length-from : (n : ℕ) (s : List ℕ) (at : ℕ) → length (pointsFrom n s
 unfolding valuesFrom
 length-from zero s at = refl
 length-from (suc n) s at = ap suc (length-from n s (at + 34))
+
+points-next : (n i : ℕ) (s : List ℕ) (at : ℕ) → i < n → pointsFrom (n - i) s at ≡ pointAt s at ∷ pointsFrom (n - (i + 1)) s (at + 34)
+unfolding valuesFrom
+points-next n i s at h = ap (λ (j : ℕ). pointsFrom j s at) (go n i h)
+  where
+    go : (n i : ℕ) → i < n → n - i ≡ suc (n - (i + 1))
+    go n i h = omega arith
 
 -- ---- what is left after a point
 
@@ -68,13 +76,6 @@ module _ {R : Type 0} (stop : Refusal → R) where
         ∙ sym (turn e i p ps l)
 
     module _ (n i : ℕ) (s : List ℕ) (at : ℕ) (e : Entry) (k : List (Point ℤ) → Entry → R) where
-      points-next : i < n → pointsFrom (n - i) s at ≡ pointAt s at ∷ pointsFrom (n - (i + 1)) s (at + 34)
-      unfolding valuesFrom
-      points-next h = ap (λ (j : ℕ). pointsFrom j s at) (go n i h)
-        where
-          go : (n i : ℕ) → i < n → n - i ≡ suc (n - (i + 1))
-          go n i h = omega arith
-
       points-end : n ≤ i → pointsFrom (n - i) s at ≡ []
       unfolding valuesFrom
       points-end h = ap (λ (j : ℕ). pointsFrom j s at) (go n i h)
@@ -87,7 +88,7 @@ module _ {R : Type 0} (stop : Refusal → R) where
 
       met : i < n → (r : Pointed) → Converts e (writePoint policy d 0 i (pointAt s at)) r → run stop e (writePoints policy d i (pointsFrom (n - i) s at)) k ≡ spread next r
       met h r c =
-          ap (λ (ps : List (Point Unit)). run stop e (writePoints policy d i ps) k) (points-next h)
+          ap (λ (ps : List (Point Unit)). run stop e (writePoints policy d i ps) k) (points-next n i s at h)
           ∙ turn e i (pointAt s at) (pointsFrom (n - (i + 1)) s (at + 34)) k
           ∙ ap (λ (j : ℕ). run stop e (writePoint policy d 0 i (pointAt s at)) (λ q e′. run stop e′ (writePoints policy d j (pointsFrom (n - (i + 1)) s (at + 34))) (λ qs e″. k (q ∷ qs) e″))) (go i)
           ∙ sym (run-through P.Refused pointed (spread next) stop next (λ x. refl) (λ q e′. refl) e (writePoint policy d 0 i (pointAt s at)))
@@ -129,18 +130,57 @@ length-bytes (q ∷ qs) = let h = length-bytes qs in omega arith
 
 -- ---- a turn that writes: what is still to be written stands at the place reached
 
-module _ (x y : ℤ) {at r : ℕ} {d d′ : List ℕ} (w : WroteAt (longBytes x ++ longBytes y) d d′ at r) (qs : List (Point ℤ)) (e : Entry) where
-  abbrev q : Point ℤ
-  q = record { x = x; y = y }
+pub put-turn : (x y : ℤ) {at r : ℕ} {d d′ : List ℕ} → WroteAt (longBytes x ++ longBytes y) d d′ at r → (qs : List (Point ℤ)) (e : Entry)
+    → putting pointsBytes at d (record { x = x; y = y } ∷ qs) e ≡ putting pointsBytes r d′ qs e
+unfolding putting
+put-turn x y {at} {r} w qs e =
+    let k = w .count in
+    let z : at + length (pointsBytes (record { x = x; y = y } ∷ qs)) ≡ r + length (pointsBytes qs) = omega arith in
+    ap₂ (λ (o : List ℕ) (j : ℕ). written o j e) (at-turn w (pointsBytes qs)) z
 
-  pub put-turn : (f l : Point ℤ) → putEnds pointsBytes (through f l) at d (q ∷ qs) e ≡ putEnds pointsBytes (through f q) r d′ qs e
-  unfolding putEnds through
-  put-turn f l = ap (λ (b : List ℕ). put b (through f q qs e)) (at-turn w (pointsBytes qs))
+pub put-end : (at : ℕ) (d : List ℕ) (e : Entry) → putting pointsBytes at d [] e ≡ written d at e
+unfolding putting
+put-end at d e =
+    let z : at + 0 ≡ at = omega arith in
+    ap₂ (λ (o : List ℕ) (j : ℕ). written o j e) (at-end at d) z
 
-  pub put-first : putEnds pointsBytes walked at d (q ∷ qs) e ≡ putEnds pointsBytes (through q q) r d′ qs e
-  unfolding putEnds walked
-  put-first = ap (λ (b : List ℕ). put b (through q q qs e)) (at-turn w (pointsBytes qs))
+-- a point converted and put: x and y are what the machine reads back of it
+pub record Turn (e : Entry) (m : Made (Point ℤ)) (to : ℕ) (out : List ℕ) (to′ : ℕ) (out′ : List ℕ) (e′ : Entry) : Type 0 where
+  pub x : ℤ
+  pub y : ℤ
+  pub converts : Converts e m (P.At x y e′)
+  pub wrote : WroteAt (longBytes x ++ longBytes y) out out′ to to′
 
-pub put-end : (f l : Point ℤ) (at : ℕ) (d : List ℕ) (e : Entry) → putEnds pointsBytes (through f l) at d [] e ≡ put d (W.Through (f .x) (f .y) (l .x) (l .y) e)
-unfolding putEnds through
-put-end f l at d e = ap (λ (b : List ℕ). put b (W.Through (f .x) (f .y) (l .x) (l .y) e)) (at-end at d)
+pub point-put : {e : Entry} {m : Made (Point ℤ)} {r : Pointed} → Converts e m r → (x y : ℤ) (e1 : Entry) → r ≡ P.At x y e1 → SFits w32 x → SFits w32 y
+    → {to to1 to′ : ℕ} {out out1 out′ : List ℕ} {e′ : Entry} → WroteAt (longBytes (toZ w32 (ofZ w32 x)) ++ longBytes (toZ w32 (ofZ w32 y))) out out1 to to1
+    → out′ ≡ out1 → to′ ≡ to1 → e′ ≡ e1 → Turn e m to out to′ out′ e′
+point-put {e} {m} {r} c x y e1 g f h {to} {to1} {to′} {out} {out1} {out′} {e′} w i j k =
+    let q : r ≡ P.At x y e′ = cc in
+    let bs = longBytes x ++ longBytes y in
+    let v : WroteAt bs out out1 to to1 = same-bytes (ap₂ (λ (u v : ℤ). longBytes u ++ longBytes v) (toZ-ofZ w32 x f) (toZ-ofZ w32 y h)) w in
+    record { x = x; y = y; converts = subst (Converts e m) q c; wrote = subst (λ (o : List ℕ). WroteAt bs out o to to′) (sym i) (subst (λ (t : ℕ). WroteAt bs out out1 to t) (sym j) v) }
+
+-- ---- points that succeed: no point is refused
+
+pub never-pointed : {X : Type 0} {e : Entry} {m : Made (Point ℤ)} {r : Pointed} {x : Refusal} → Succeeds m → Converts e m r → r ≡ P.Refused x → X
+unfolding run
+never-pointed {e = e} s c g =
+    let h = sym g ∙ c .is ∙ ap (λ (n : Made (Point ℤ)). run P.Refused e n pointed) (s .makes) in
+    let z : _≡_ {A = ℕ} 0 1 = cc in
+    absurd (omega arith)
+
+-- the first, and the others
+pub record First (policy : GdsRoundingPolicy) (d : Float) (i j : ℕ) (p : Point Unit) (ps : List (Point Unit)) : Type 0 where
+  pub point : Succeeds (writePoint policy d 0 i p)
+  pub rest : Succeeds (writePoints policy d j ps)
+
+pub first-succeeds : (policy : GdsRoundingPolicy) (d : Float) (n i : ℕ) (s : List ℕ) (at : ℕ) → i < n → Succeeds (writePoints policy d i (pointsFrom (n - i) s at))
+    → First policy d i (i + 1) (pointAt s at) (pointsFrom (n - (i + 1)) s (at + 34))
+unfolding writePoints
+first-succeeds policy d n i s at h g =
+    let a = steps (yields (subst (λ (ps : List (Point Unit)). Succeeds (writePoints policy d i ps)) (points-next n i s at h) g)) in
+    let b = steps (a .then) in
+    record { point = succeeds (a .first); rest = subst (λ (j : ℕ). Succeeds (writePoints policy d j (pointsFrom (n - (i + 1)) s (at + 34)))) (go i) (succeeds (b .first)) }
+  where
+    go : (i : ℕ) → suc i ≡ i + 1
+    go i = omega arith

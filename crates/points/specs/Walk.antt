@@ -4,9 +4,7 @@ use mathlib.Core.Path.{_≡_}
 use mathlib.Core.List.{List, [], _∷_}
 use Prim.Native.Nat.{ℕ, _+_, _≤_}
 use lib.IntN.{ℤ, pos}
-use Rattle.refusal.specs.declared.Refusal.{Refusal}
 use Rattle.units.specs.Point.{Point}
-use Rattle.big_endian.specs.Buffer.{splice}
 use Rattle.conversion.specs.declared.Conversion.{Conversion}
 use Rattle.conversion.specs.declared.Conversion.the-variants as C
 use Rattle.conversion.specs.declared.Entry.{Entry}
@@ -79,23 +77,3 @@ through f l ps e = W.Through (f .x) (f .y) (lastOf l ps .x) (lastOf l ps .y) e
 unfoldable pub walked : List (Point ℤ) → Entry → Walked
 walked [] e = W.Through (pos 0) (pos 0) (pos 0) (pos 0) e
 walked (p ∷ ps) e = through p p ps e
-
--- ---- points written, with their ends
-
--- a refusal; or every byte of the output, and the answer
-pub data Put : Type 0 where
-  stopped : Refusal → Put
-  put : List ℕ → Walked → Put
-
--- the value's bytes from a place of the output on, and its ends
-unfoldable pub putEnds : {A : Type 0} → (A → List ℕ) → (A → Entry → Walked) → ℕ → List ℕ → A → Entry → Put
-putEnds bytes ends at before a e = put (splice at (bytes a) before) (ends a e)
-
--- what the code's answer and the output owe
-abbrev pub Leaves : Put → List ℕ → Walked → Type 0
-Leaves (stopped x) after r = r ≡ W.Refused x
-Leaves (put bs w) after r = (after ≡ bs) × (r ≡ w)
-
--- the answer is the step's, and so is every byte of the output where it is not refused
-abbrev pub Puts : {A : Type 0} → (A → List ℕ) → (A → Entry → Walked) → Entry → Made A → ℕ → List ℕ → List ℕ → Walked → Type 0
-Puts bytes ends e m at before after r = Leaves (run stopped e m (putEnds bytes ends at before)) after r

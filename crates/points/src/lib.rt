@@ -12,11 +12,11 @@ ghost use Rattle.conversion.specs.Convert.{Spot, convertUnit};
 ghost use Rattle.conversion.specs.Fold.{run};
 ghost use Rattle.conversion.specs.Points.{spot, writePoint, writePoints};
 ghost use Rattle.stream.specs.Records.{longBytes, pointsBytes};
-ghost use Rattle.writing.specs.Steps.{Writes};
+ghost use Rattle.writing.specs.Steps.{Succeeds, Writes};
 ghost use Rattle.forms.specs.Place.{unitAt, pointAt, pointsFrom};
 ghost use Rattle.points.specs.declared.Walked.the-variants as W;
 ghost use Rattle.points.specs.Integers.{integerAt, integersFrom, AllPass};
-ghost use Rattle.points.specs.Walk.{Values, Converts, both, plainOf, through, walked, Puts};
+ghost use Rattle.points.specs.Walk.{Values, Converts, both, plainOf, through, walked};
 use conversion::Conversion;
 use conversion::Deviation;
 use conversion::Entry;
@@ -24,12 +24,10 @@ use conversion::GdsRoundingPolicy;
 use refusal::Refusal;
 use writing::Written;
 
-// The bytes of a coordinate and of a point on the sheet, and of a point in an XY record.
+// The bytes of a coordinate and of a point on the sheet.
 const COORDINATE: usize = 17;
 
 const POINT: usize = 34;
-
-const XY_POINT: usize = 8;
 
 // In a coordinate: the kind byte of an integer, and the places of the unit and of an integer's value.
 const INTEGER: u8 = 0;
@@ -342,8 +340,8 @@ pub fn put_point(out: &mut [u8], at: usize, x: i32, y: i32) -> usize
     big_endian::put_i32_at(out, a, y)
 }
 
-// The points from place 1 on, after the first.
-fn put_rest(
+// All points in turn, converted.
+fn put_converted(
     policy: GdsRoundingPolicy,
     d: f64,
     b: &[u8],
@@ -351,84 +349,41 @@ fn put_rest(
     n: usize,
     out: &mut [u8],
     start: usize,
-    x0: i32,
-    y0: i32,
     entry: Entry,
-) -> Walked
-    requires { ⌜ from + 34 * n ≤ length (now b) + 34 ⌝ }
-    requires { ⌜ 1 ≤ n ⌝ }
+) -> Written
+    requires { ⌜ from + 34 * n ≤ length (now b) ⌝ }
     requires { ⌜ n ≤ 8191 ⌝ }
-    requires { ⌜ start + 8 * n ≤ length (now out) + 8 ⌝ }
-    requires { ⌜ entry .count ≤ 18 ⌝ }
-    ensures { λ r. ⌜ Puts pointsBytes (through (record { x = x0; y = y0 }) (record { x = x0; y = y0 })) entry (writePoints policy d 1 (pointsFrom (n - 1) (now (b .entry)) from)) start (now (out .entry)) (now (out .exit)) r ⌝ }
+    requires { ⌜ Succeeds (writePoints policy d 0 (pointsFrom n (now b) from)) ⌝ }
+    requires { ⌜ start + 8 * n ≤ length (now out) ⌝ }
+    requires { ⌜ entry .count ≤ 16 ⌝ }
+    ensures { λ r. ⌜ Writes pointsBytes entry (writePoints policy d 0 (pointsFrom n (now (b .entry)) from)) start (now (out .entry)) (now (out .exit)) r ⌝ }
 {
-    let mut i: usize = 1;
+    let mut i: usize = 0;
     let mut at = from;
     let mut to = start;
-    let mut x1 = x0;
-    let mut y1 = y0;
     let mut e = entry;
     while i < n {
         let cx = convert_at(policy, d, b, at);
         let cy = convert_at(policy, d, b, at + COORDINATE);
         match plain_point(cx, cy) {
             Plain::At { x, y } => {
-                x1 = x;
-                y1 = y;
+                to = put_point(out, to, x, y);
             }
             Plain::No => match record_point(cx, cy, conversion::POINT_FIELD, i as u16, e) {
-                Pointed::Refused { refusal } => {
-                    return Walked::Refused { refusal };
+                Pointed::Refused { refusal: _ } => {
+                    // Never: no point is refused.
+                    return Written { to, entry: e };
                 }
                 Pointed::At { x, y, entry: more } => {
-                    x1 = x;
-                    y1 = y;
+                    to = put_point(out, to, x, y);
                     e = more;
                 }
             },
         }
-        to = put_point(out, to, x1, y1);
         at = at + POINT;
         i = i + 1;
     }
-    Walked::Through {
-        x0,
-        y0,
-        x1,
-        y1,
-        entry: e,
-    }
-}
-
-// All points, eight bytes each, with their ends: for a polygon, which has to be closed.
-pub fn put_ends(
-    policy: GdsRoundingPolicy,
-    d: f64,
-    b: &[u8],
-    from: usize,
-    n: usize,
-    out: &mut [u8],
-    start: usize,
-    entry: Entry,
-) -> Walked
-    requires { ⌜ from + 34 * n ≤ length (now b) ⌝ }
-    requires { ⌜ 1 ≤ n ⌝ }
-    requires { ⌜ n ≤ 8191 ⌝ }
-    requires { ⌜ start + 8 * n ≤ length (now out) ⌝ }
-    requires { ⌜ entry .count ≤ 16 ⌝ }
-    ensures { λ r. ⌜ Puts pointsBytes walked entry (writePoints policy d 0 (pointsFrom n (now (b .entry)) from)) start (now (out .entry)) (now (out .exit)) r ⌝ }
-{
-    if all_pass(d, b, from, n) {
-        put_integers(b, from, n, out, start);
-        return integer_ends(b, from, n, entry);
-    }
-    match convert_point(policy, d, b, from, conversion::POINT_FIELD, 0, entry) {
-        Pointed::Refused { refusal } => Walked::Refused { refusal },
-        Pointed::At { x, y, entry: e } => {
-            let to = put_point(out, start, x, y);
-            put_rest(policy, d, b, from + POINT, n, out, to, x, y, e)
-        }
-    }
+    Written { to, entry: e }
 }
 
 // All points, eight bytes each, from a place of the output on.
@@ -443,23 +398,17 @@ pub fn put_points(
     entry: Entry,
 ) -> Written
     requires { ⌜ from + 34 * n ≤ length (now b) ⌝ }
-    requires { ⌜ 1 ≤ n ⌝ }
     requires { ⌜ n ≤ 8191 ⌝ }
+    requires { ⌜ Succeeds (writePoints policy d 0 (pointsFrom n (now b) from)) ⌝ }
     requires { ⌜ start + 8 * n ≤ length (now out) ⌝ }
     requires { ⌜ entry .count ≤ 16 ⌝ }
     ensures { λ r. ⌜ Writes pointsBytes entry (writePoints policy d 0 (pointsFrom n (now (b .entry)) from)) start (now (out .entry)) (now (out .exit)) r ⌝ }
 {
-    match put_ends(policy, d, b, from, n, out, start, entry) {
-        Walked::Refused { refusal } => Written::Refused { refusal },
-        Walked::Through {
-            x0: _,
-            y0: _,
-            x1: _,
-            y1: _,
-            entry: e,
-        } => Written::Through {
-            to: start + XY_POINT * n,
-            entry: e,
-        },
+    if all_pass(d, b, from, n) {
+        return Written {
+            to: put_integers(b, from, n, out, start),
+            entry,
+        };
     }
+    put_converted(policy, d, b, from, n, out, start, entry)
 }

@@ -5,7 +5,7 @@ use mathlib.Core.List.{List, [], _∷_, _++_, append-assoc, append-nil}
 use Prim.Native.Nat.{ℕ, zero, suc, _+_, _-_, _%_, _≤_, _<_}
 use native.Mathlib.Omega.{arith}
 use native.Mathlib.Nat.{add-sub-cancel-left}
-use lib.Dec.{leb}
+use lib.Dec.{leb, leb→le}
 use lib.ListN.{length, take, drop, length-append}
 use borrow.Author.Tests.{le-leb, lt-leb}
 use Rattle.refusal.specs.declared.Refusal.{Refusal}
@@ -16,6 +16,7 @@ use Rattle.big_endian.proofs.BufferLaws.{at-turn}
 use Rattle.conversion.specs.declared.Entry.{Entry}
 use Rattle.conversion.specs.Fold.{run}
 use Rattle.conversion.proofs.FoldLaws.{run-need, run-unmet, run-pure, run-map}
+use Rattle.conversion.proofs.MadeLaws.{steps, checked}
 use Rattle.sheet.specs.Element as S
 use Rattle.stream.specs.Strings.{padded}
 use Rattle.stream.specs.Structure as D
@@ -29,7 +30,8 @@ use Rattle.forms.specs.Place.{valuesFrom, placeFrom, stringAt, propertyAt, prop
 use Rattle.forms.proofs.StringLaws.{length-string}
 use Rattle.writing.specs.declared.Measured.{Measured}
 use Rattle.writing.specs.declared.Measured.the-variants as M
-use Rattle.writing.specs.Steps.{sizing, written, putting}
+use Rattle.writing.specs.Steps.{sizing, Succeeds}
+use Rattle.writing.proofs.StepLaws.{yields, succeeds, written, putting}
 use Rattle.properties.specs.Tail.{said, propertyBytes, tailBytes, tailLength}
 
 -- ---- lengths
@@ -57,6 +59,51 @@ pub tail-nil : tailBytes [] ≡ recordBytes (emptyRecord ENDEL)
 unfolding tailBytes streamBytes tailRecords
 tail-nil = append-nil (recordBytes (emptyRecord ENDEL))
 
+-- ---- properties that succeed: the first value is not too long, and the others succeed
+
+record First (q : S.Property) (qs : List S.Property) : Type 0 where
+  fits : length (q .value) ≤ maxValueLength
+  rest : Succeeds (writeProperties qs)
+
+first-fits : (q : S.Property) (qs : List S.Property) → Succeeds (writeProperties (q ∷ qs)) → First q qs
+unfolding writeProperties
+first-fits q qs s =
+    let c = checked R.StringLength (yields s) in
+    record { fits = leb→le (length (q .value)) maxValueLength (c .passed); rest = succeeds (steps (c .then) .first) }
+
+-- ---- the property at a place, of those that are left
+
+module _ (n i : ℕ) (b : List ℕ) (at m : ℕ) (h : i < n) (g : m ≡ numberAt 2 b (at + 2)) (in-block : at + 4 + m ≤ length b) where
+  next : propertiesFrom (n - i) b at ≡ propertyAt b at ∷ propertiesFrom (n - (i + 1)) b (propertyEnd b at)
+  unfolding valuesFrom
+  next = ap (λ (j : ℕ). propertiesFrom j b at) (go n i h)
+    where
+      go : (n i : ℕ) → i < n → n - i ≡ suc (n - (i + 1))
+      go n i h = omega arith
+
+  value-long : length (propertyAt b at .value) ≡ m
+  unfolding propertyAt
+  value-long = length-string b (at + 2) (go at m (numberAt 2 b (at + 2)) g in-block) ∙ sym g
+    where
+      go : (at m x : ℕ) → m ≡ x → at + 4 + m ≤ length b → at + 2 + 2 + x ≤ length b
+      go at m x e h = omega arith
+
+  end-is : propertyEnd b at ≡ at + 4 + m
+  end-is = go at m (numberAt 2 b (at + 2)) g
+    where
+      go : (at m x : ℕ) → m ≡ x → at + 2 + 2 + x ≡ at + 4 + m
+      go at m x e = omega arith
+
+  module _ (s : Succeeds (writeProperties (propertiesFrom (n - i) b at))) where
+    first-next : Succeeds (writeProperties (propertyAt b at ∷ propertiesFrom (n - (i + 1)) b (propertyEnd b at)))
+    first-next = subst (λ (qs : List S.Property). Succeeds (writeProperties qs)) next s
+
+    pub value-fits : m ≤ maxValueLength
+    value-fits = subst (λ (x : ℕ). x ≤ maxValueLength) value-long (first-fits (propertyAt b at) _ first-next .fits)
+
+    pub rest-succeeds : Succeeds (writeProperties (propertiesFrom (n - (i + 1)) b (at + 4 + m)))
+    rest-succeeds = subst (λ (j : ℕ). Succeeds (writeProperties (propertiesFrom (n - (i + 1)) b j))) end-is (first-fits (propertyAt b at) _ first-next .rest)
+
 -- ---- properties in turn, whatever is to follow
 
 module _ {Z : Type 0} (stop : Refusal → Z) (e : Entry) (k : List D.Property → Entry → Z) where
@@ -74,37 +121,17 @@ module _ {Z : Type 0} (stop : Refusal → Z) (e : Entry) (k : List D.Property �
   properties-made = run-pure stop e [] k
 
   module _ (n i : ℕ) (b : List ℕ) (at m : ℕ) (h : i < n) (g : m ≡ numberAt 2 b (at + 2)) (in-block : at + 4 + m ≤ length b) where
-    next : propertiesFrom (n - i) b at ≡ propertyAt b at ∷ propertiesFrom (n - (i + 1)) b (propertyEnd b at)
-    unfolding valuesFrom
-    next = ap (λ (j : ℕ). propertiesFrom j b at) (go n i h)
-      where
-        go : (n i : ℕ) → i < n → n - i ≡ suc (n - (i + 1))
-        go n i h = omega arith
-
-    value-long : length (propertyAt b at .value) ≡ m
-    unfolding propertyAt
-    value-long = length-string b (at + 2) (go at m (numberAt 2 b (at + 2)) g in-block) ∙ sym g
-      where
-        go : (at m x : ℕ) → m ≡ x → at + 4 + m ≤ length b → at + 2 + 2 + x ≤ length b
-        go at m x e h = omega arith
-
-    end-is : propertyEnd b at ≡ at + 4 + m
-    end-is = go at m (numberAt 2 b (at + 2)) g
-      where
-        go : (at m x : ℕ) → m ≡ x → at + 2 + 2 + x ≡ at + 4 + m
-        go at m x e = omega arith
-
     pub tail-long : maxValueLength < m → run stop e (writeProperties (propertiesFrom (n - i) b at)) k ≡ stop R.StringLength
     tail-long l =
-        ap (λ (qs : List S.Property). run stop e (writeProperties qs) k) next
-        ∙ property-long (propertyAt b at) _ (ap (λ (x : ℕ). leb x maxValueLength) value-long ∙ lt-leb m maxValueLength l)
+        ap (λ (qs : List S.Property). run stop e (writeProperties qs) k) (next n i b at m h g in-block)
+        ∙ property-long (propertyAt b at) _ (ap (λ (x : ℕ). leb x maxValueLength) (value-long n i b at m h g in-block) ∙ lt-leb m maxValueLength l)
 
     pub tail-turn : m ≤ maxValueLength
         → run stop e (writeProperties (propertiesFrom (n - i) b at)) k ≡ run stop e (writeProperties (propertiesFrom (n - (i + 1)) b (at + 4 + m))) (λ ws e′. k (said (propertyAt b at) ∷ ws) e′)
     tail-turn l =
-        ap (λ (qs : List S.Property). run stop e (writeProperties qs) k) next
-        ∙ property-made (propertyAt b at) _ (ap (λ (x : ℕ). leb x maxValueLength) value-long ∙ le-leb m maxValueLength l)
-        ∙ ap (λ (j : ℕ). run stop e (writeProperties (propertiesFrom (n - (i + 1)) b j)) (λ ws e′. k (said (propertyAt b at) ∷ ws) e′)) end-is
+        ap (λ (qs : List S.Property). run stop e (writeProperties qs) k) (next n i b at m h g in-block)
+        ∙ property-made (propertyAt b at) _ (ap (λ (x : ℕ). leb x maxValueLength) (value-long n i b at m h g in-block) ∙ le-leb m maxValueLength l)
+        ∙ ap (λ (j : ℕ). run stop e (writeProperties (propertiesFrom (n - (i + 1)) b j)) (λ ws e′. k (said (propertyAt b at) ∷ ws) e′)) (end-is n i b at m h g in-block)
 
   pub tail-end : (n i : ℕ) (b : List ℕ) (at : ℕ) → n ≤ i → run stop e (writeProperties (propertiesFrom (n - i) b at)) k ≡ k [] e
   unfolding valuesFrom

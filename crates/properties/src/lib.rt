@@ -6,7 +6,7 @@ ghost use Rattle.big_endian.specs.Big.{numberAt};
 ghost use Rattle.cell.specs.Write.{writeProperties};
 ghost use Rattle.forms.specs.Place.{placeFrom, propertyAt, propertyEnd, propertiesFrom};
 ghost use Rattle.records.specs.Bytes.{Placed};
-ghost use Rattle.writing.specs.Steps.{Measures, Writes};
+ghost use Rattle.writing.specs.Steps.{Measures, Succeeds, Writes};
 ghost use Rattle.properties.specs.Tail.{said, propertyBytes, tailBytes, tailLength};
 use conversion::Entry;
 use refusal::Refusal;
@@ -74,6 +74,7 @@ pub fn put_tail(
     entry: Entry,
 ) -> Written
     requires { ⌜ placeFrom propertyEnd n (now b) from ≤ length (now b) ⌝ }
+    requires { ⌜ Succeeds (writeProperties (propertiesFrom n (now b) from)) ⌝ }
     requires { ⌜ start + tailLength n (now b) from ≤ length (now out) ⌝ }
     ensures { λ r. ⌜ Writes tailBytes entry (writeProperties (propertiesFrom n (now (b .entry)) from)) start (now (out .entry)) (now (out .exit)) r ⌝ }
 {
@@ -82,16 +83,11 @@ pub fn put_tail(
     let mut to = start;
     while i < n {
         let m = value_length(b, at);
-        if m > MAX_VALUE_LENGTH {
-            return Written::Refused {
-                refusal: Refusal::StringLength,
-            };
-        }
         to = put_property_at(out, to, b, at, m);
         at = at + 4 + m;
         i = i + 1;
     }
-    Written::Through {
+    Written {
         to: records::put_empty_at(out, to, records::ENDEL),
         entry,
     }

@@ -1,5 +1,5 @@
 -- The checks before the transform, each way out of the code. Assumes nothing.
-use mathlib.Core.Path.{_≡_, refl, sym, ap, ap₂, _∙_}
+use mathlib.Core.Path.{_≡_, refl, sym, ap, ap₂, _∙_, subst}
 use mathlib.Core.Bool.{Bool, true, false, not, _&&_, _||_, cond}
 use mathlib.Core.Option.{none, some}
 use mathlib.Core.List.{List}
@@ -9,13 +9,15 @@ use lib.Dec.{leb, eqb}
 use lib.ListN.{length}
 use lib.IntN.{pos}
 use lib.Ieee.{Float, fin, le}
+use lib.Ieee.Bits.{is-true}
 use borrow.Author.Tests.{le-leb, lt-leb, leb-true, not-true, not-false}
 use Rattle.refusal.specs.declared.Refusal.the-variants as R
 use Rattle.big_endian.specs.Big.{numberAt}
 use Rattle.binary64.specs.Value.{one64}
 use Rattle.conversion.specs.Made.{Made, need, _>>_}
-use Rattle.conversion.proofs.MadeLaws.{need-on, need-off}
+use Rattle.conversion.proofs.MadeLaws.{checked, need-on, need-off}
 use Rattle.sheet.specs.Form.{absentKind}
+use Rattle.sheet.specs.Element as S
 use Rattle.cell.specs.Limits.{within, maxNameLength, maxColRow}
 use Rattle.cell.specs.Names.{isName}
 use Rattle.cell.specs.Write.{isSome, inUnit}
@@ -23,8 +25,10 @@ use Rattle.forms.specs.declared.ReferencePlaces.{ReferencePlaces}
 use Rattle.forms.specs.Place.{pointAt, spacingAt, stringAt, stringEnd}
 use Rattle.forms.specs.Forms.{referenceAt}
 use Rattle.forms.proofs.StringLaws.{length-string}
+use Rattle.writing.specs.Steps.{Succeeds}
+use Rattle.writing.proofs.StepLaws.{yields, past-check}
 use Rattle.reference.specs.declared.Check.the-variants as C
-use Rattle.reference.specs.Reference.{guarded, lacking, Checks}
+use Rattle.reference.specs.Reference.{guarded, lacking, Bounded, Checks}
 
 -- ---- a spacing that is lacking
 
@@ -125,3 +129,23 @@ module _ (b : List ℕ) (s : ReferencePlaces) (inside : stringEnd b (s .name) �
                   rows = at-most 1 (s .rows) maxColRow (sym j ∙ high);
                 };
               }
+
+-- ---- what follows the checks, where all succeeds
+
+pub guarded-past : {A : Type 0} (e : S.Reference) (m : Made A) → Succeeds (guarded e m) → guarded e m ≡ m
+unfolding guarded
+guarded-past e m s =
+    let a = past-check (isName (e .name)) R.Name _ s in
+    let b = past-check (within 1 (e .columns) maxColRow && within 1 (e .rows) maxColRow) R.ColumnsOrRows _ (subst Succeeds a s) in
+    let c = past-check (leb (e .columns) 1 || isSome (e .columnSpacing)) R.Spacing _ (subst Succeeds (a ∙ b) s) in
+    a ∙ b ∙ c ∙ past-check (leb (e .rows) 1 || isSome (e .rowSpacing)) R.Spacing m (subst Succeeds (a ∙ b ∙ c) s)
+
+pub guarded-bounded : (b : List ℕ) (s : ReferencePlaces) → stringEnd b (s .name) ≤ length b → {A : Type 0} (m : Made A) → Succeeds (guarded (referenceAt b s) m) → Bounded b s
+unfolding guarded referenceAt
+guarded-bounded b s inside m g =
+    let n = checked R.Name (yields g) in
+    let c = checked R.ColumnsOrRows (n .then) in
+    let both = both-true (within 1 (s .columns) maxColRow) (within 1 (s .rows) maxColRow) (is-true _ (c .passed)) in
+    let e = length-string b (s .name) inside in
+    let a = name-length (stringAt b (s .name)) (is-true _ (n .passed)) in
+    record { name = omega arith; columns = at-most 1 (s .columns) maxColRow (both .0); rows = at-most 1 (s .rows) maxColRow (both .1) }

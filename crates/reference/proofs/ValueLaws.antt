@@ -3,7 +3,8 @@ use mathlib.Core.Path.{_≡_, refl, sym, ap, ap₂, _∙_, subst}
 use mathlib.Core.Bool.{Bool, true, false, _&&_, cond}
 use mathlib.Core.Option.{Option}
 use mathlib.Core.List.{List, []}
-use Prim.Native.Nat.{ℕ}
+use Prim.Native.Nat.{ℕ, _≤_}
+use lib.ListN.{length}
 use lib.IntN.{ℤ}
 use lib.Ieee.{Float}
 use Rattle.refusal.specs.declared.Refusal.{Refusal}
@@ -24,13 +25,15 @@ use Rattle.stream.specs.Strings.{padded}
 use Rattle.stream.specs.Structure as D
 use Rattle.cell.specs.Write.{inUnit, writeTransform, writeSref, writeAref, writeReference}
 use Rattle.forms.specs.declared.ReferencePlaces.{ReferencePlaces}
-use Rattle.forms.specs.Place.{pointAt, stringAt}
+use Rattle.forms.specs.Place.{pointAt, stringAt, stringEnd}
 use Rattle.forms.specs.Forms.{referenceAt}
 use Rattle.transform.specs.declared.Strans.{Strans}
 use Rattle.transform.specs.Strans.{saidOf}
 use Rattle.transform.proofs.StransLaws.{transform-length, strans-length-is}
 use Rattle.writing.specs.Ready.{Ready, stopped, ready}
+use Rattle.writing.specs.Steps.{Succeeds}
 use Rattle.writing.proofs.StepLaws.{run-through}
+use Rattle.writing.proofs.ReadyLaws.{never-stopped}
 use Rattle.points.specs.declared.Pointed.{Pointed}
 use Rattle.points.specs.declared.Pointed.the-variants as P
 use Rattle.points.specs.Walk.{pointed, Converts}
@@ -41,7 +44,8 @@ use Rattle.array.specs.Corners.{cornered}
 use Rattle.array.proofs.CornerLaws.{corners-are}
 use Rattle.reference.specs.declared.ReferenceValues.{ReferenceValues}
 use Rattle.reference.specs.declared.ReferenceValues.the-variants as N
-use Rattle.reference.specs.Reference.{sizeOf, singleRest, arrayRest, isSingle, referenceLength, guarded, Bounded, Encodes, afterTransform, turnedArray, srefOf, arefOf, Fits, Values}
+use Rattle.reference.specs.Reference.{sizeOf, singleRest, arrayRest, isSingle, referenceLength, guarded, Bounded, Encodes, afterTransform, afterChecks, turnedArray, srefOf, arefOf, readyOf, Fits, Values}
+use Rattle.reference.proofs.CheckLaws.{guarded-bounded, guarded-past}
 
 -- ---- 15, and then the array. t and u are the answers of the two tests.
 
@@ -167,29 +171,39 @@ module _ (policy : GdsRoundingPolicy) (d : Float) (b : List ℕ) (s : ReferenceP
     array-made k e′ g =
         record { is = ap array-ready (sym g) ∙ array-met; fine = (fits false h, corners-are (s .columns) (s .rows) e array r k e′ c g) }
 
--- ---- the whole, after checks that pass
+-- ---- the transform, and the whole
 
 module _ (policy : GdsRoundingPolicy) (d : Float) (b : List ℕ) (s : ReferencePlaces) (e : Entry) where
-  abbrev transform-then : Made D.SaidBody
-  transform-then = writeTransform (s .degrees) (s .magnification) (s .reflection) >>= afterTransform policy d (referenceAt b s)
-
-  whole : guarded (referenceAt b s) transform-then ≡ writeReference policy d (referenceAt b s)
-  unfolding guarded afterTransform writeReference referenceAt
+  whole : guarded (referenceAt b s) (afterChecks policy d (referenceAt b s)) ≡ writeReference policy d (referenceAt b s)
+  unfolding guarded afterChecks afterTransform writeReference
   whole = refl
 
   refused-values : (m : Made D.SaidBody) (x : Refusal) → refused x ≡ m → Values b s e m (N.Refused x)
   unfolding run
   refused-values m x h = record { is = ap (λ (n : Made D.SaidBody). run stopped e n ready) h; fine = tt }
 
+  pub transform-stops : (x : Refusal) → refused x ≡ writeTransform (s .degrees) (s .magnification) (s .reflection) → Values b s e (afterChecks policy d (referenceAt b s)) (N.Refused x)
+  unfolding afterChecks referenceAt
+  transform-stops x g = refused-values _ x (refused-on (writeTransform (s .degrees) (s .magnification) (s .reflection)) (afterTransform policy d (referenceAt b s)) x g)
+
+  pub transform-goes-on : (t : Strans) → Encodes s t → (r : ReferenceValues) → Values b s e (afterTransform policy d (referenceAt b s) (saidOf t)) r → Values b s e (afterChecks policy d (referenceAt b s)) r
+  unfolding afterChecks referenceAt
+  transform-goes-on t g r v =
+      subst (λ (m : Made D.SaidBody). Values b s e m r) (pure-on (writeTransform (s .degrees) (s .magnification) (s .reflection)) (afterTransform policy d (referenceAt b s)) (saidOf t) g) v
+
   pub checks-stop : (x : Refusal) → ((m : Made D.SaidBody) → refused x ≡ guarded (referenceAt b s) m) → Values b s e (writeReference policy d (referenceAt b s)) (N.Refused x)
-  checks-stop x h = refused-values _ x (h transform-then ∙ whole)
+  checks-stop x h = refused-values _ x (h (afterChecks policy d (referenceAt b s)) ∙ whole)
 
-  module _ (h : (m : Made D.SaidBody) → m ≡ guarded (referenceAt b s) m) where
-    pub transform-stops : (x : Refusal) → refused x ≡ writeTransform (s .degrees) (s .magnification) (s .reflection) → Values b s e (writeReference policy d (referenceAt b s)) (N.Refused x)
-    transform-stops x g = refused-values _ x (refused-on (writeTransform (s .degrees) (s .magnification) (s .reflection)) (afterTransform policy d (referenceAt b s)) x g ∙ h transform-then ∙ whole)
+  pub checks-pass : ((m : Made D.SaidBody) → m ≡ guarded (referenceAt b s) m) → (r : ReferenceValues) → Values b s e (afterChecks policy d (referenceAt b s)) r → Values b s e (writeReference policy d (referenceAt b s)) r
+  checks-pass h r v = subst (λ (m : Made D.SaidBody). Values b s e m r) (h (afterChecks policy d (referenceAt b s)) ∙ whole) v
 
-    pub transform-goes-on : (t : Strans) → Encodes s t → (r : ReferenceValues) → Values b s e (afterTransform policy d (referenceAt b s) (saidOf t)) r → Values b s e (writeReference policy d (referenceAt b s)) r
-    transform-goes-on t g r v =
-        subst (λ (m : Made D.SaidBody). Values b s e m r)
-        (pure-on (writeTransform (s .degrees) (s .magnification) (s .reflection)) (afterTransform policy d (referenceAt b s)) (saidOf t) g ∙ h transform-then ∙ whole)
-        v
+  -- a reference that succeeds has passed its checks, and is not refused
+  module _ (g : Succeeds (writeReference policy d (referenceAt b s))) where
+    pub reference-bounded : stringEnd b (s .name) ≤ length b → Bounded b s
+    reference-bounded inside = guarded-bounded b s inside (afterChecks policy d (referenceAt b s)) (subst Succeeds (sym whole) g)
+
+    pub reference-past : {r : ReferenceValues} → Values b s e (afterChecks policy d (referenceAt b s)) r → Values b s e (writeReference policy d (referenceAt b s)) r
+    reference-past {r} v = subst (λ (m : Made D.SaidBody). Values b s e m r) (sym (guarded-past (referenceAt b s) _ (subst Succeeds (sym whole) g)) ∙ whole) v
+
+    pub reference-never : {X : Type 0} {r : ReferenceValues} {x : Refusal} → Values b s e (writeReference policy d (referenceAt b s)) r → r ≡ N.Refused x → X
+    reference-never {x = x} v h = never-stopped e (writeReference policy d (referenceAt b s)) x g (ap (readyOf b s) (sym h) ∙ v .is)

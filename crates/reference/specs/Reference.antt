@@ -104,6 +104,12 @@ Encodes s t = pure (saidOf t) ≡ writeTransform (s .degrees) (s .magnification)
 unfoldable pub afterTransform : GdsRoundingPolicy → Float → S.Reference → Option D.Strans → Made D.SaidBody
 afterTransform policy d e u = cond (single e) (writeSref policy d e u >>= λ w. pure (D.sref w)) (writeAref policy d e u >>= λ w. pure (D.aref w))
 
+-- after the checks
+unfoldable pub afterChecks : GdsRoundingPolicy → Float → S.Reference → Made D.SaidBody
+afterChecks policy d e = do
+  u ← writeTransform (e .degrees) (e .magnification) (e .reflection)
+  afterTransform policy d e u
+
 -- an array's 15 and its conversions
 abbrev pub turnedArray : GdsRoundingPolicy → Float → S.Reference → Made ArrayPoints
 turnedArray policy d e = do

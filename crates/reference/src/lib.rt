@@ -13,8 +13,8 @@ ghost use Rattle.records.specs.Bytes.{Placed, Recorded};
 ghost use Rattle.transform.specs.Strans.{saidOf, stransLength};
 ghost use Rattle.array.specs.declared.Array.the-variants as Answer;
 ghost use Rattle.array.specs.Corners.{cornersFor, stepsOf, cornered};
-ghost use Rattle.writing.specs.Steps.{Measures, Writes};
-ghost use Rattle.reference.specs.Reference.{referenceBytes, sizeOf, singleRest, arrayRest, isSingle, referenceLength, lacking, Bounded, Checks, Encodes, afterTransform, turnedArray, srefOf, arefOf, Values};
+ghost use Rattle.writing.specs.Steps.{Measures, Succeeds, Writes};
+ghost use Rattle.reference.specs.Reference.{referenceBytes, sizeOf, singleRest, arrayRest, isSingle, referenceLength, lacking, Bounded, Checks, Encodes, afterTransform, afterChecks, turnedArray, srefOf, arefOf, Values};
 use array::Array;
 use array::Corners;
 use conversion::Entry;
@@ -189,6 +189,25 @@ fn place_reference(
     }
 }
 
+// After the checks: the transform, and then the conversions.
+fn convert_reference(
+    policy: GdsRoundingPolicy,
+    d: f64,
+    b: &[u8],
+    s: ReferencePlaces,
+    entry: Entry,
+) -> ReferenceValues
+    requires { ⌜ ReferenceIn (now b) s ⌝ }
+    requires { ⌜ Bounded (now b) s ⌝ }
+    requires { ⌜ entry .count ≤ 16 ⌝ }
+    ensures { λ r. ⌜ Values (now (b .entry)) s entry (afterChecks policy d (referenceAt (now (b .entry)) s)) r ⌝ }
+{
+    match transform::write_transformation(s.degrees, s.magnification, s.reflection) {
+        Transform::Refused { refusal } => ReferenceValues::Refused { refusal },
+        Transform::Encoded { strans } => place_reference(policy, d, b, s, strans, entry),
+    }
+}
+
 // The checks and conversions in the order of `write_reference_cell`.
 fn reference_values(
     policy: GdsRoundingPolicy,
@@ -203,14 +222,7 @@ fn reference_values(
 {
     match check_reference(b, s) {
         Check::Refused { refusal } => ReferenceValues::Refused { refusal },
-        Check::Passed => {
-            match transform::write_transformation(s.degrees, s.magnification, s.reflection) {
-                Transform::Refused { refusal: refusal2 } => ReferenceValues::Refused {
-                    refusal: refusal2,
-                },
-                Transform::Encoded { strans } => place_reference(policy, d, b, s, strans, entry),
-            }
-        }
+        Check::Passed => convert_reference(policy, d, b, s, entry),
     }
 }
 
@@ -316,7 +328,7 @@ fn put_aref_at(
     put_corners_at(out, a4, c)
 }
 
-// The records from a place of the output on; nothing is written where the reference is refused.
+// The records from a place of the output on; every value is known before the first byte is written.
 pub fn put_reference(
     policy: GdsRoundingPolicy,
     d: f64,
@@ -327,18 +339,20 @@ pub fn put_reference(
     entry: Entry,
 ) -> Written
     requires { ⌜ ReferenceIn (now b) reference ⌝ }
+    requires { ⌜ Succeeds (writeReference policy d (referenceAt (now b) reference)) ⌝ }
     requires { ⌜ entry .count ≤ 16 ⌝ }
     requires { ⌜ start + referenceLength (now b) reference ≤ length (now out) ⌝ }
     ensures { λ r. ⌜ Writes referenceBytes entry (writeReference policy d (referenceAt (now (b .entry)) reference)) start (now (out .entry)) (now (out .exit)) r ⌝ }
 {
-    match reference_values(policy, d, b, reference, entry) {
-        ReferenceValues::Refused { refusal } => Written::Refused { refusal },
+    match convert_reference(policy, d, b, reference, entry) {
+        // Never: the reference is not refused.
+        ReferenceValues::Refused { refusal: _ } => Written { to: start, entry },
         ReferenceValues::Single {
             strans,
             x,
             y,
             entry: e,
-        } => Written::Through {
+        } => Written {
             to: put_sref_at(out, start, b, reference, strans, x, y),
             entry: e,
         },
@@ -346,7 +360,7 @@ pub fn put_reference(
             strans: strans2,
             corners,
             entry: e2,
-        } => Written::Through {
+        } => Written {
             to: put_aref_at(out, start, b, reference, strans2, corners),
             entry: e2,
         },

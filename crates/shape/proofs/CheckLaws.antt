@@ -1,10 +1,10 @@
 -- The checks before the points: each way out, and what is left of a shape after them. Assumes nothing.
-use mathlib.Core.Path.{_≡_, refl, sym, ap, ap₂, _∙_}
+use mathlib.Core.Path.{_≡_, refl, sym, ap, ap₂, _∙_, subst}
 use mathlib.Core.Bool.{Bool, true, false, _&&_}
 use mathlib.Core.List.{List}
 use Prim.Native.Nat.{ℕ, _≤_, _<_}
 use native.Mathlib.Omega.{arith}
-use lib.Dec.{leb}
+use lib.Dec.{T, leb}
 use lib.ListN.{length}
 use lib.IntN.{ℤ}
 use lib.Ieee.{Float}
@@ -17,16 +17,19 @@ use Rattle.conversion.specs.declared.GdsRoundingPolicy.{GdsRoundingPolicy}
 use Rattle.conversion.specs.Made.{Made, refused, pure, need, _>>=_, _>>_}
 use Rattle.conversion.specs.Fold.{run}
 use Rattle.conversion.specs.Points.{writePoints}
-use Rattle.conversion.proofs.MadeLaws.{need-on, need-off, pure-then}
+use Rattle.conversion.proofs.MadeLaws.{checked, need-on, need-off, pure-then}
 use Rattle.conversion.proofs.FoldLaws.{run-map}
+use Rattle.sheet.specs.Element as S
 use Rattle.stream.specs.Structure as D
-use Rattle.cell.specs.Limits.{within}
+use Rattle.cell.specs.Limits.{within, maxLayer, maxDataType}
 use Rattle.cell.specs.Write.{layerAndType, writeShape}
+use Rattle.writing.specs.Steps.{Succeeds}
+use Rattle.writing.proofs.StepLaws.{yields, past-check, past-checks}
 use Rattle.forms.specs.declared.ShapePlaces.{ShapePlaces}
 use Rattle.forms.specs.Place.{pointsFrom}
 use Rattle.forms.specs.Forms.{shapeAt}
 use Rattle.points.proofs.WalkLaws.{length-from}
-use Rattle.shape.specs.Shape.{shapeChecks}
+use Rattle.shape.specs.Shape.{shapeChecks, afterChecks}
 
 -- ---- each way out
 
@@ -82,10 +85,10 @@ module _ (policy : GdsRoundingPolicy) (d : Float) (least most : ℕ) (b : List �
   points = writePoints policy d 0 (pointsFrom (s .count) b (s .points))
 
   abbrev step : Made D.Shape
-  step = points >>= λ ps. pure (shaped ps)
+  step = afterChecks policy d (shapeAt b s)
 
   shape-is : writeShape policy d least most (shapeAt b s) ≡ shapeChecks least most (s .layer) (s .datatype) (s .count) >> step
-  unfolding writeShape shapeAt shapeChecks
+  unfolding writeShape shapeAt shapeChecks afterChecks
   shape-is =
       regroup (within least (length (pointsFrom (s .count) b (s .points))) most) R.PointCount (layerAndType (s .layer) (s .datatype)) step
       ∙ ap (λ (n : ℕ). (need (within least n most) R.PointCount >> layerAndType (s .layer) (s .datatype)) >> step) (length-from (s .count) b (s .points))
@@ -97,7 +100,23 @@ module _ (policy : GdsRoundingPolicy) (d : Float) (least most : ℕ) (b : List �
 
     pub shape-goes-on : pure tt ≡ shapeChecks least most (s .layer) (s .datatype) (s .count)
         → run stop e points (λ ps e′. k (shaped ps) e′) ≡ run stop e (writeShape policy d least most (shapeAt b s)) k
-    unfolding _>>_
+    unfolding _>>_ afterChecks shapeAt
     shape-goes-on h =
         sym (run-map stop e points shaped k)
         ∙ ap (λ (m : Made D.Shape). run stop e m k) (sym (pure-then tt (λ u. step)) ∙ ap (λ (c : Made _). c >> step) h ∙ sym shape-is)
+
+-- ---- a shape that succeeds has passed its checks
+
+module _ (policy : GdsRoundingPolicy) (d : Float) (least most : ℕ) (e : S.Shape) (s : Succeeds (writeShape policy d least most e)) where
+  pub shape-past : writeShape policy d least most e ≡ afterChecks policy d e
+  unfolding writeShape layerAndType afterChecks
+  shape-past =
+      let h = past-check (within least (length (e .points)) most) R.PointCount _ s in
+      h ∙ past-checks (leb (e .layer) maxLayer) R.LayerOrType (leb (e .datatype) maxDataType) R.LayerOrType _ (subst Succeeds h s)
+
+  pub shape-counted : length (e .points) ≤ most
+  unfolding writeShape
+  shape-counted = go (leb least (length (e .points))) (leb (length (e .points)) most) refl (checked R.PointCount (yields s) .passed)
+    where
+      go : (t u : Bool) → leb (length (e .points)) most ≡ u → T (t && u) → length (e .points) ≤ most
+      go true true h p = leb-true (length (e .points)) most h

@@ -2,8 +2,11 @@
 use mathlib.Core.Path.{_≡_, refl, sym, ap, ap₂, _∙_, subst}
 use mathlib.Core.Bool.{Bool, true, false}
 use mathlib.Core.List.{List, [], _∷_, append-nil}
+use Prim.Native.Nat.{_≤_}
+use lib.ListN.{length}
 use lib.IntN.{ℤ, pos, negsuc}
 use lib.Ieee.{Float}
+use lib.Ieee.Bits.{is-true}
 use mir.Syntax.{w32}
 use mir.Val.{SFits, toZ, ofZ}
 use mir.ValLaws.{toZ-ofZ}
@@ -16,13 +19,18 @@ use Rattle.conversion.specs.declared.Deviation.{Deviation}
 use Rattle.conversion.specs.declared.Entry.{Entry}
 use Rattle.conversion.specs.declared.GdsRoundingPolicy.{GdsRoundingPolicy}
 use Rattle.conversion.specs.Made.{Made, refused, made, pure, after, need, _>>=_, _>>_}
+use Rattle.conversion.proofs.MadeLaws.{steps, checked}
 use Rattle.sheet.specs.Element as S
 use Rattle.stream.specs.Structure as D
-use Rattle.cell.specs.Limits.{minPolygonPoints, maxPoints}
-use Rattle.cell.specs.Write.{samePoint, lastOf, closed, writeShape, writePolygon}
+use Rattle.cell.specs.Limits.{minPolygonPoints, minNodePoints, maxPoints, maxNodePoints}
+use Rattle.cell.specs.Write.{samePoint, lastOf, closed, writeShape, writePolygon, writeNode}
+use Rattle.writing.specs.Steps.{Succeeds}
+use Rattle.writing.proofs.StepLaws.{yields, succeeds}
 use Rattle.points.specs.declared.Walked.the-variants as W
 use Rattle.points.specs.Walk.{through, walked}
 use Rattle.points.proofs.WalkLaws.{pointOf, point-back}
+use Rattle.shape.specs.Shape.{afterChecks}
+use Rattle.shape.proofs.CheckLaws.{shape-past, shape-counted}
 
 -- ---- whole numbers, which the code compares by their bits
 
@@ -84,3 +92,27 @@ module _ (policy : GdsRoundingPolicy) (d : Float) (e : S.Shape) where
     pub polygon-closed : closed (w .points) ≡ true → writePolygon policy d e ≡ made w vs
     unfolding writePolygon _>>=_ _>>_ need
     polygon-closed c = ap ending h ∙ ap (λ (t : Bool). after vs (need t R.NotClosed >> pure w)) c ∙ ap (made w) (append-nil vs)
+
+-- ---- a polygon or a node that succeeds is its points
+
+pub polygon-is : (policy : GdsRoundingPolicy) (d : Float) (e : S.Shape) → Succeeds (writePolygon policy d e) → writePolygon policy d e ≡ afterChecks policy d e
+unfolding writePolygon
+polygon-is policy d e s =
+    let a = steps (yields s) in
+    let w = a .value in
+    let c = checked R.NotClosed (a .then) in
+    polygon-closed policy d e w (a .first .log) (a .first .is) (is-true (closed (w .points)) (c .passed))
+    ∙ sym (a .first .is)
+    ∙ shape-past policy d minPolygonPoints maxPoints e (succeeds (a .first))
+
+pub polygon-counted : (policy : GdsRoundingPolicy) (d : Float) (e : S.Shape) → Succeeds (writePolygon policy d e) → length (e .points) ≤ maxPoints
+unfolding writePolygon
+polygon-counted policy d e s = shape-counted policy d minPolygonPoints maxPoints e (succeeds (steps (yields s) .first))
+
+pub node-is : (policy : GdsRoundingPolicy) (d : Float) (e : S.Shape) → Succeeds (writeNode policy d e) → writeNode policy d e ≡ afterChecks policy d e
+unfolding writeNode
+node-is policy d e s = shape-past policy d minNodePoints maxNodePoints e s
+
+pub node-counted : (policy : GdsRoundingPolicy) (d : Float) (e : S.Shape) → Succeeds (writeNode policy d e) → length (e .points) ≤ maxNodePoints
+unfolding writeNode
+node-counted policy d e s = shape-counted policy d minNodePoints maxNodePoints e s

@@ -1,5 +1,5 @@
 -- The bytes of a shape: those before the points, then the points; and how many there are. Assumes nothing.
-use mathlib.Core.Path.{_≡_, sym, ap, _∙_, subst}
+use mathlib.Core.Path.{_≡_, sym, ap, _∙_}
 use mathlib.Core.List.{List, _++_, append-nil}
 use Prim.Native.Nat.{ℕ, _+_, _*_}
 use native.Mathlib.Omega.{arith}
@@ -8,12 +8,10 @@ use lib.IntN.{ℤ}
 use lib.Ieee.{Float}
 use Rattle.refusal.specs.declared.Refusal.the-variants as R
 use Rattle.units.specs.Point.{Point}
-use Rattle.big_endian.specs.Buffer.{splice}
-use Rattle.big_endian.proofs.BufferLaws.{splice-next}
 use Rattle.conversion.specs.declared.Deviation.{Deviation}
 use Rattle.conversion.specs.declared.Entry.{Entry}
 use Rattle.conversion.specs.declared.GdsRoundingPolicy.{GdsRoundingPolicy}
-use Rattle.conversion.specs.Made.{made, pure}
+use Rattle.conversion.specs.Made.{made}
 use Rattle.conversion.specs.Points.{writePoints}
 use Rattle.conversion.proofs.MadeLaws.{Yields, made-yields, steps, checked, then-steps}
 use Rattle.sheet.specs.Element as S
@@ -25,11 +23,11 @@ use Rattle.records.specs.Bytes.{headBytes, Placed}
 use Rattle.forms.specs.declared.ShapePlaces.{ShapePlaces}
 use Rattle.forms.specs.Place.{pointsFrom}
 use Rattle.forms.specs.Forms.{shapeAt}
-use Rattle.points.specs.declared.Walked.{Walked}
-use Rattle.points.specs.Walk.{walked, Put, stopped, put, putEnds, Leaves, Puts}
-use Rattle.points.proofs.WalkLaws.{run-counted, length-from, length-made, length-bytes}
-use Rattle.shape.specs.Shape.{shapeBytes, shapeLength, shapeHead, shapeEnds, shapeChecks}
-use Rattle.shape.proofs.CheckLaws.{shape-goes-on}
+use Rattle.writing.specs.declared.Written.{Written}
+use Rattle.writing.specs.Steps.{Succeeds, Writes}
+use Rattle.writing.proofs.StepLaws.{yields, succeeds, write-after}
+use Rattle.points.proofs.WalkLaws.{length-from, length-made, length-bytes}
+use Rattle.shape.specs.Shape.{shapeBytes, shapeLength, shapeHead, afterChecks}
 
 -- ---- how many bytes
 
@@ -70,28 +68,23 @@ module _ (code typeCode : ℕ) (w : D.Shape) (len : ℕ) where
       ap (λ (n : ℕ). before-xy (headBytes n XY fourByte ++ pointsBytes (w .points))) h
       ∙ ap (λ (l : List ℕ). before-xy (headBytes (4 + length (pointsBytes (w .points))) XY fourByte ++ l)) (sym (append-nil (pointsBytes (w .points))))
 
--- the points' answer and output, after the head, are the shape's
-module _ (policy : GdsRoundingPolicy) (d : Float) (least most : ℕ) (b : List ℕ) (s : ShapePlaces) (e : Entry) (code typeCode at to len : ℕ) (before cur : List ℕ)
-    (l : len ≡ 4 + 8 * s .count) (w : Placed (shapeHead code typeCode (s .layer) (s .datatype) len) 20 before cur at to) where
+-- the points, written after the head, are the shape
+module _ (policy : GdsRoundingPolicy) (d : Float) (b : List ℕ) (s : ShapePlaces) (e : Entry) (code typeCode len : ℕ) where
   abbrev shaped : List (Point ℤ) → D.Shape
   shaped ps = record { layer = s .layer; datatype = s .datatype; points = ps }
 
-  joined : (qs : List (Point ℤ)) (e′ : Entry) → length qs ≡ length (pointsFrom (s .count) b (s .points)) → putEnds pointsBytes walked to cur qs e′ ≡ putEnds (shapeBytes code typeCode) shapeEnds at before (shaped qs) e′
-  unfolding putEnds
-  joined qs e′ h =
+  pub shape-put : {at to : ℕ} {before cur last : List ℕ} {r : Written} → len ≡ 4 + 8 * s .count → Placed (shapeHead code typeCode (s .layer) (s .datatype) len) 20 before cur at to
+      → Writes pointsBytes e (writePoints policy d 0 (pointsFrom (s .count) b (s .points))) to cur last r
+      → Writes (shapeBytes code typeCode) e (afterChecks policy d (shapeAt b s)) at before last r
+  unfolding afterChecks shapeAt
+  shape-put l w u =
+      let qs = u .step .value in
       let a = length-bytes qs in
-      let c = length-from (s .count) b (s .points) in
+      let c = length-made policy d 0 (pointsFrom (s .count) b (s .points)) qs (u .step .deviations) (u .step .makes) ∙ length-from (s .count) b (s .points) in
       let g : len ≡ 4 + length (pointsBytes qs) = omega arith in
-      ap (λ (x : List ℕ). put x (walked qs e′))
-      (ap (splice to (pointsBytes qs)) (w .wrote .out)
-      ∙ splice-next at to (shapeHead code typeCode (s .layer) (s .datatype) len) (pointsBytes qs) before (w .wrote .count) (w .wrote .fits)
-      ∙ ap (λ (x : List ℕ). splice at x before) (head-then-points code typeCode (shaped qs) len g))
+      write-after pointsBytes (shapeBytes code typeCode) shaped e (writePoints policy d 0 (pointsFrom (s .count) b (s .points))) u (w .wrote) (sym (head-then-points code typeCode (shaped qs) len g))
 
-  pub shape-put : (last : List ℕ) (r : Walked) → pure tt ≡ shapeChecks least most (s .layer) (s .datatype) (s .count)
-      → Puts pointsBytes walked e (writePoints policy d 0 (pointsFrom (s .count) b (s .points))) to cur last r
-      → Puts (shapeBytes code typeCode) shapeEnds e (writeShape policy d least most (shapeAt b s)) at before last r
-  shape-put last r h p =
-      subst (λ (o : Put). Leaves o last r)
-      (run-counted stopped policy d 0 (pointsFrom (s .count) b (s .points)) e (putEnds pointsBytes walked to cur) (λ qs e′. putEnds (shapeBytes code typeCode) shapeEnds at before (shaped qs) e′) joined
-      ∙ shape-goes-on policy d least most b s stopped e (putEnds (shapeBytes code typeCode) shapeEnds at before) h)
-      p
+-- its points succeed where it does
+pub points-succeed : (policy : GdsRoundingPolicy) (d : Float) (e : S.Shape) → Succeeds (afterChecks policy d e) → Succeeds (writePoints policy d 0 (e .points))
+unfolding afterChecks
+points-succeed policy d e s = succeeds (steps (yields s) .first)

@@ -2,9 +2,13 @@
 -- and its checks before the points ("Who can cause which refusal", 8 and 9). Assumes nothing.
 use mathlib.Core.List.{List, [], _++_}
 use Prim.Native.Nat.{ℕ, _+_, _*_}
+use lib.Ieee.{Float}
 use Rattle.refusal.specs.declared.Refusal.the-variants as R
 use Rattle.conversion.specs.declared.Entry.{Entry}
-use Rattle.conversion.specs.Made.{Made, Done, refused, pure, need, _>>_}
+use Rattle.conversion.specs.declared.GdsRoundingPolicy.{GdsRoundingPolicy}
+use Rattle.conversion.specs.Made.{Made, Done, refused, pure, need, _>>=_, _>>_}
+use Rattle.conversion.specs.Points.{writePoints}
+use Rattle.sheet.specs.Element as S
 use Rattle.stream.specs.Structure as D
 use Rattle.stream.specs.Record.{BOUNDARY, DATATYPE, NODE, NODETYPE, LAYER, XY, fourByte, recordBytes, streamBytes}
 use Rattle.stream.specs.Records.{emptyRecord, wordRecord, shapeRecords}
@@ -50,3 +54,10 @@ shapeChecks least most layer datatype n = need (within least n most) R.PointCoun
 abbrev pub checkOf : Check → Made Done
 checkOf (C.Refused r) = refused r
 checkOf C.Passed = pure tt
+
+-- ---- its points, after the checks
+
+unfoldable pub afterChecks : GdsRoundingPolicy → Float → S.Shape → Made D.Shape
+afterChecks policy d e = do
+  ps ← writePoints policy d 0 (e .points)
+  pure (record { layer = e .layer; datatype = e .datatype; points = ps })

@@ -5,11 +5,10 @@ ghost use lib.ListN.{length};
 ghost use Rattle.conversion.specs.Fold.{run};
 ghost use Rattle.cell.specs.Write.{samePoint, writeShape, writePolygon, writeNode};
 ghost use Rattle.records.specs.Bytes.{Placed};
-ghost use Rattle.writing.specs.Steps.{Measures, Writes};
+ghost use Rattle.writing.specs.Steps.{Measures, Succeeds, Writes};
 ghost use Rattle.forms.specs.Forms.{shapeAt, ShapeIn};
 ghost use Rattle.points.specs.declared.Walked.the-variants as W;
-ghost use Rattle.points.specs.Walk.{Puts};
-ghost use Rattle.shape.specs.Shape.{shapeBytes, polygonBytes, nodeBytes, shapeHead, shapeEnds, shapeChecks, checkOf};
+ghost use Rattle.shape.specs.Shape.{shapeBytes, polygonBytes, nodeBytes, shapeHead, shapeEnds, shapeChecks, checkOf, afterChecks};
 use conversion::Entry;
 use conversion::GdsRoundingPolicy;
 use forms::ShapePlaces;
@@ -198,43 +197,36 @@ fn put_shape_head(
     records::put_head_at(out, c, len, records::XY, records::FOUR_BYTE)
 }
 
-// What a polygon and a node have in common, but for their numbers of points and their record codes.
+// What a polygon and a node have in common, but for their record codes: the records up to the points, then the points.
 fn put_shape(
     policy: GdsRoundingPolicy,
     d: f64,
     b: &[u8],
     places: ShapePlaces,
-    least: usize,
-    most: usize,
     code: u8,
     type_code: u8,
     out: &mut [u8],
     start: usize,
     entry: Entry,
-) -> Walked
+) -> Written
     requires { ⌜ ShapeIn (now b) places ⌝ }
-    requires { ⌜ 1 ≤ least ⌝ }
-    requires { ⌜ most ≤ 8191 ⌝ }
+    requires { ⌜ places .count ≤ 8191 ⌝ }
+    requires { ⌜ Succeeds (afterChecks policy d (shapeAt (now b) places)) ⌝ }
     requires { ⌜ start + (20 + 8 * places .count) ≤ length (now out) ⌝ }
     requires { ⌜ entry .count ≤ 16 ⌝ }
-    ensures { λ r. ⌜ Puts (shapeBytes code «type_code») shapeEnds entry (writeShape policy d least most (shapeAt (now (b .entry)) places)) start (now (out .entry)) (now (out .exit)) r ⌝ }
+    ensures { λ r. ⌜ Writes (shapeBytes code «type_code») entry (afterChecks policy d (shapeAt (now (b .entry)) places)) start (now (out .entry)) (now (out .exit)) r ⌝ }
 {
-    match check_shape(places, least, most) {
-        Check::Refused { refusal } => Walked::Refused { refusal },
-        Check::Passed => {
-            let len = (RECORD_HEAD + XY_POINT * places.count) as u16;
-            let to = put_shape_head(
-                out,
-                start,
-                code,
-                type_code,
-                places.layer,
-                places.datatype,
-                len,
-            );
-            points::put_ends(policy, d, b, places.points, places.count, out, to, entry)
-        }
-    }
+    let len = (RECORD_HEAD + XY_POINT * places.count) as u16;
+    let to = put_shape_head(
+        out,
+        start,
+        code,
+        type_code,
+        places.layer,
+        places.datatype,
+        len,
+    );
+    points::put_points(policy, d, b, places.points, places.count, out, to, entry)
 }
 
 pub fn put_polygon(
@@ -247,43 +239,22 @@ pub fn put_polygon(
     entry: Entry,
 ) -> Written
     requires { ⌜ ShapeIn (now b) places ⌝ }
+    requires { ⌜ Succeeds (writePolygon policy d (shapeAt (now b) places)) ⌝ }
     requires { ⌜ start + (20 + 8 * places .count) ≤ length (now out) ⌝ }
     requires { ⌜ entry .count ≤ 16 ⌝ }
     ensures { λ r. ⌜ Writes polygonBytes entry (writePolygon policy d (shapeAt (now (b .entry)) places)) start (now (out .entry)) (now (out .exit)) r ⌝ }
 {
-    let walked = put_shape(
+    put_shape(
         policy,
         d,
         b,
         places,
-        MIN_POLYGON_POINTS,
-        MAX_POINTS,
         records::BOUNDARY,
         records::DATATYPE,
         out,
         start,
         entry,
-    );
-    match walked {
-        Walked::Refused { refusal } => Written::Refused { refusal },
-        Walked::Through {
-            x0,
-            y0,
-            x1,
-            y1,
-            entry: e,
-        } => {
-            if is_closed(x0, y0, x1, y1) {
-                return Written::Through {
-                    to: start + (BEFORE_POINTS + XY_POINT * places.count),
-                    entry: e,
-                };
-            }
-            Written::Refused {
-                refusal: Refusal::NotClosed,
-            }
-        }
-    }
+    )
 }
 
 pub fn put_node(
@@ -296,34 +267,20 @@ pub fn put_node(
     entry: Entry,
 ) -> Written
     requires { ⌜ ShapeIn (now b) places ⌝ }
+    requires { ⌜ Succeeds (writeNode policy d (shapeAt (now b) places)) ⌝ }
     requires { ⌜ start + (20 + 8 * places .count) ≤ length (now out) ⌝ }
     requires { ⌜ entry .count ≤ 16 ⌝ }
     ensures { λ r. ⌜ Writes nodeBytes entry (writeNode policy d (shapeAt (now (b .entry)) places)) start (now (out .entry)) (now (out .exit)) r ⌝ }
 {
-    let walked = put_shape(
+    put_shape(
         policy,
         d,
         b,
         places,
-        MIN_NODE_POINTS,
-        MAX_NODE_POINTS,
         records::NODE,
         records::NODETYPE,
         out,
         start,
         entry,
-    );
-    match walked {
-        Walked::Refused { refusal } => Written::Refused { refusal },
-        Walked::Through {
-            x0: _,
-            y0: _,
-            x1: _,
-            y1: _,
-            entry: e,
-        } => Written::Through {
-            to: start + (BEFORE_POINTS + XY_POINT * places.count),
-            entry: e,
-        },
-    }
+    )
 }

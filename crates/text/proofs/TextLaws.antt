@@ -40,12 +40,13 @@ use Rattle.points.specs.Walk.{pointed, Converts}
 use Rattle.transform.specs.declared.Strans.{Strans}
 use Rattle.transform.specs.Strans.{saidOf, stransBytes, stransLength}
 use Rattle.transform.proofs.StransLaws.{then-strans, length-strans, length-strans-of, transform-length}
-use Rattle.writing.specs.Ready.{stopped, ready}
-use Rattle.writing.proofs.StepLaws.{run-through}
+use Rattle.writing.specs.Ready.{Ready, stopped, ready}
+use Rattle.writing.specs.Steps.{Succeeds}
+use Rattle.writing.proofs.StepLaws.{run-through, past-check}
 use Rattle.writing.proofs.ReadyLaws.{ready-yields}
 use Rattle.text.specs.declared.TextValues.{TextValues}
 use Rattle.text.specs.declared.TextValues.the-variants as X
-use Rattle.text.specs.Text.{SaidText, textBytes, sizeOf, textLength, textOf, readyOf}
+use Rattle.text.specs.Text.{SaidText, textBytes, sizeOf, textLength, afterChecks, textOf, readyOf}
 
 -- what the records say of a text whose transform and origin are these
 abbrev said : S.Text → Option D.Strans → Point ℤ → SaidText
@@ -68,43 +69,56 @@ module _ {Z : Type 0} (stop : Refusal → Z) (e : Entry) (k : SaidText → Entry
     text-string g =
         sym (run-need stop e (leb (t .layer) maxLayer) R.LayerOrType _ k h ∙ run-unmet stop e (leb (length (t .string)) maxStringLength) R.StringLength _ k g)
 
-    module _ (g : leb (length (t .string)) maxStringLength ≡ true) where
-      abbrev rest : Option D.Strans → Made SaidText
-      rest u = writePoint policy d originField 0 (t .origin) >>= λ o. pure (said t u o)
+    pub text-checked : leb (length (t .string)) maxStringLength ≡ true → run stop e (afterChecks policy d t) k ≡ run stop e (writeText policy d t) k
+    unfolding writeText afterChecks
+    text-checked g =
+        sym (run-need stop e (leb (t .layer) maxLayer) R.LayerOrType _ k h ∙ run-need stop e (leb (length (t .string)) maxStringLength) R.StringLength _ k g)
 
-      checks : (m : Made (Option D.Strans)) → m ≡ writeTransform (t .degrees) (t .magnification) (t .reflection)
-          → run stop e m (λ u e′. run stop e′ (rest u) k) ≡ run stop e (writeText policy d t) k
-      unfolding writeText
-      checks m i =
-          ap (λ (n : Made (Option D.Strans)). run stop e n (λ u e′. run stop e′ (rest u) k)) i
-          ∙ sym (run-need stop e (leb (t .layer) maxLayer) R.LayerOrType _ k h ∙ run-need stop e (leb (length (t .string)) maxStringLength) R.StringLength _ k g ∙ run-bind stop e _ rest k)
+  abbrev rest : Option D.Strans → Made SaidText
+  rest u = writePoint policy d originField 0 (t .origin) >>= λ o. pure (said t u o)
 
-      pub text-transform : (x : Refusal) → refused x ≡ writeTransform (t .degrees) (t .magnification) (t .reflection) → stop x ≡ run stop e (writeText policy d t) k
-      unfolding run
-      text-transform x i = checks (refused x) i
+  converted : (m : Made (Option D.Strans)) → m ≡ writeTransform (t .degrees) (t .magnification) (t .reflection)
+      → run stop e m (λ u e′. run stop e′ (rest u) k) ≡ run stop e (afterChecks policy d t) k
+  unfolding afterChecks
+  converted m i = ap (λ (n : Made (Option D.Strans)). run stop e n (λ u e′. run stop e′ (rest u) k)) i ∙ sym (run-bind stop e _ rest k)
 
-      module _ (u : Option D.Strans) (i : pure u ≡ writeTransform (t .degrees) (t .magnification) (t .reflection))
-          (r : Pointed) (j : Converts e (writePoint policy d originField 0 (t .origin)) r) where
-        abbrev spread : Pointed → Z
-        spread (P.Refused x) = stop x
-        spread (P.At x y e′) = k (said t u (record { x = x; y = y })) e′
+  pub text-transform : (x : Refusal) → refused x ≡ writeTransform (t .degrees) (t .magnification) (t .reflection) → stop x ≡ run stop e (afterChecks policy d t) k
+  unfolding run
+  text-transform x i = converted (refused x) i
 
-        after : run stop e (rest u) k ≡ run stop e (writeText policy d t) k
-        unfolding run notedAll
-        after = checks (pure u) i
+  module _ (u : Option D.Strans) (i : pure u ≡ writeTransform (t .degrees) (t .magnification) (t .reflection))
+      (r : Pointed) (j : Converts e (writePoint policy d originField 0 (t .origin)) r) where
+    abbrev spread : Pointed → Z
+    spread (P.Refused x) = stop x
+    spread (P.At x y e′) = k (said t u (record { x = x; y = y })) e′
 
-        origin : (q : Pointed) → r ≡ q → spread q ≡ run stop e (writeText policy d t) k
-        origin q l =
-            ap spread (sym l ∙ j .is)
-            ∙ run-through P.Refused pointed spread stop (λ o e′. k (said t u o) e′) (λ x. refl) (λ o e′. refl) e (writePoint policy d originField 0 (t .origin))
-            ∙ sym (run-map stop e (writePoint policy d originField 0 (t .origin)) (said t u) k)
-            ∙ after
+    after : run stop e (rest u) k ≡ run stop e (afterChecks policy d t) k
+    unfolding run notedAll
+    after = converted (pure u) i
 
-        pub text-origin : (x : Refusal) → r ≡ P.Refused x → stop x ≡ run stop e (writeText policy d t) k
-        text-origin x l = origin (P.Refused x) l
+    origin : (q : Pointed) → r ≡ q → spread q ≡ run stop e (afterChecks policy d t) k
+    origin q l =
+        ap spread (sym l ∙ j .is)
+        ∙ run-through P.Refused pointed spread stop (λ o e′. k (said t u o) e′) (λ x. refl) (λ o e′. refl) e (writePoint policy d originField 0 (t .origin))
+        ∙ sym (run-map stop e (writePoint policy d originField 0 (t .origin)) (said t u) k)
+        ∙ after
 
-        pub text-through : (x y : ℤ) (e′ : Entry) → r ≡ P.At x y e′ → k (said t u (record { x = x; y = y })) e′ ≡ run stop e (writeText policy d t) k
-        text-through x y e′ l = origin (P.At x y e′) l
+    pub text-origin : (x : Refusal) → r ≡ P.Refused x → stop x ≡ run stop e (afterChecks policy d t) k
+    text-origin x l = origin (P.Refused x) l
+
+    pub text-through : (x y : ℤ) (e′ : Entry) → r ≡ P.At x y e′ → k (said t u (record { x = x; y = y })) e′ ≡ run stop e (afterChecks policy d t) k
+    text-through x y e′ l = origin (P.At x y e′) l
+
+-- a text that succeeds has passed its checks
+text-past : (policy : GdsRoundingPolicy) (d : Float) (t : S.Text) → Succeeds (writeText policy d t) → writeText policy d t ≡ afterChecks policy d t
+unfolding writeText afterChecks
+text-past policy d t s =
+    let h = past-check (leb (t .layer) maxLayer) R.LayerOrType _ s in
+    h ∙ past-check (leb (length (t .string)) maxStringLength) R.StringLength _ (subst Succeeds h s)
+
+-- and what is ready after them is its own
+pub ready-past : (policy : GdsRoundingPolicy) (d : Float) (t : S.Text) (e : Entry) (r : Ready SaidText) → Succeeds (writeText policy d t) → r ≡ run stopped e (afterChecks policy d t) ready → r ≡ run stopped e (writeText policy d t) ready
+ready-past policy d t e r s h = h ∙ ap (λ (m : Made SaidText). run stopped e m ready) (sym (text-past policy d t s))
 
 -- ---- lengths
 

@@ -3,11 +3,18 @@ use mathlib.Core.Option.{Option, some}
 use mathlib.Core.List.{List, []}
 use Prim.Native.Nat.{ℕ, _+_, _*_, _%_}
 use lib.IntN.{ℤ}
+use lib.Ieee.{Float}
 use Rattle.big_endian.specs.Big.{numberAt}
+use Rattle.conversion.specs.declared.GdsRoundingPolicy.{GdsRoundingPolicy}
+use Rattle.conversion.specs.Made.{Made, pure, _>>=_}
+use Rattle.conversion.specs.Points.{writePoint}
+use Rattle.conversion.specs.Field.{originField}
+use Rattle.sheet.specs.Element as S
 use Rattle.stream.specs.Strings.{padded}
 use Rattle.stream.specs.Structure as D
 use Rattle.stream.specs.Record.{streamBytes}
 use Rattle.stream.specs.Records.{textRecords}
+use Rattle.cell.specs.Write.{writeTransform}
 use Rattle.forms.specs.declared.TextPlaces.{TextPlaces}
 use Rattle.forms.specs.Place.{stringAt}
 use Rattle.transform.specs.declared.Strans.{Strans}
@@ -33,6 +40,13 @@ unfoldable pub textLength : List ℕ → TextPlaces → ℕ
 textLength b s = sizeOf (transformLength (s .degrees) (s .magnification) (s .reflection)) (numberAt 2 b (s .string))
 
 -- ---- the checks and conversions, all before the first byte
+
+-- after the checks: the transform and the origin
+unfoldable pub afterChecks : GdsRoundingPolicy → Float → S.Text → Made SaidText
+afterChecks policy d e = do
+  u ← writeTransform (e .degrees) (e .magnification) (e .reflection)
+  o ← writePoint policy d originField 0 (e .origin)
+  pure (record { layer = e .layer; texttype = e .texttype; presentation = some (4 * e .vertical + e .horizontal); transform = u; origin = o; string = padded (e .string) })
 
 -- by the places, and the values that the sheet does not hold as they are
 unfoldable pub textOf : List ℕ → TextPlaces → Strans → ℤ → ℤ → SaidText

@@ -10,8 +10,8 @@ ghost use Rattle.forms.specs.Forms.{textAt, TextIn};
 ghost use Rattle.transform.specs.Strans.{stransLength};
 ghost use Rattle.records.specs.Bytes.{Placed};
 ghost use Rattle.writing.specs.Ready.{stopped, ready};
-ghost use Rattle.writing.specs.Steps.{Measures, Writes};
-ghost use Rattle.text.specs.Text.{sizeOf, textBytes, textLength, textOf, readyOf};
+ghost use Rattle.writing.specs.Steps.{Measures, Succeeds, Writes};
+ghost use Rattle.text.specs.Text.{sizeOf, textBytes, textLength, afterChecks, textOf, readyOf};
 use conversion::Entry;
 use conversion::GdsRoundingPolicy;
 use forms::TextPlaces;
@@ -54,8 +54,8 @@ fn string_length(b: &[u8], at: usize) -> usize
     big_endian::u16_at(b, at) as usize
 }
 
-// The checks and conversions in the order of `write_text_with_converter`; the text type is not limited.
-fn text_values(
+// The transform and the origin, after the checks.
+fn convert_text(
     policy: GdsRoundingPolicy,
     d: f64,
     b: &[u8],
@@ -64,18 +64,8 @@ fn text_values(
 ) -> TextValues
     requires { ⌜ TextIn (now b) text ⌝ }
     requires { ⌜ entry .count < 4294967294 ⌝ }
-    ensures { λ r. ⌜ readyOf (now (b .entry)) text r ≡ run stopped entry (writeText policy d (textAt (now (b .entry)) text)) ready ⌝ }
+    ensures { λ r. ⌜ readyOf (now (b .entry)) text r ≡ run stopped entry (afterChecks policy d (textAt (now (b .entry)) text)) ready ⌝ }
 {
-    if text.layer > MAX_LAYER {
-        return TextValues::Refused {
-            refusal: Refusal::LayerOrType,
-        };
-    }
-    if string_length(b, text.string) > MAX_STRING_LENGTH {
-        return TextValues::Refused {
-            refusal: Refusal::StringLength,
-        };
-    }
     match transform::write_transformation(text.degrees, text.magnification, text.reflection) {
         Transform::Refused { refusal } => TextValues::Refused { refusal },
         Transform::Encoded { strans } => {
@@ -98,6 +88,31 @@ fn text_values(
             }
         }
     }
+}
+
+// The checks and conversions in the order of `write_text_with_converter`; the text type is not limited.
+fn text_values(
+    policy: GdsRoundingPolicy,
+    d: f64,
+    b: &[u8],
+    text: TextPlaces,
+    entry: Entry,
+) -> TextValues
+    requires { ⌜ TextIn (now b) text ⌝ }
+    requires { ⌜ entry .count < 4294967294 ⌝ }
+    ensures { λ r. ⌜ readyOf (now (b .entry)) text r ≡ run stopped entry (writeText policy d (textAt (now (b .entry)) text)) ready ⌝ }
+{
+    if text.layer > MAX_LAYER {
+        return TextValues::Refused {
+            refusal: Refusal::LayerOrType,
+        };
+    }
+    if string_length(b, text.string) > MAX_STRING_LENGTH {
+        return TextValues::Refused {
+            refusal: Refusal::StringLength,
+        };
+    }
+    convert_text(policy, d, b, text, entry)
 }
 
 // The first refusal, or the length of the records.
@@ -161,7 +176,7 @@ fn put_records_at(
     records::put_string_at(out, a6, records::STRING, forms::string_at(b, text.string))
 }
 
-// The records from a place of the output on; nothing is written where the text is refused.
+// The records from a place of the output on; every value is known before the first byte is written.
 pub fn put_text(
     policy: GdsRoundingPolicy,
     d: f64,
@@ -172,18 +187,20 @@ pub fn put_text(
     entry: Entry,
 ) -> Written
     requires { ⌜ TextIn (now b) text ⌝ }
+    requires { ⌜ Succeeds (writeText policy d (textAt (now b) text)) ⌝ }
     requires { ⌜ entry .count < 4294967294 ⌝ }
     requires { ⌜ start + textLength (now b) text ≤ length (now out) ⌝ }
     ensures { λ r. ⌜ Writes textBytes entry (writeText policy d (textAt (now (b .entry)) text)) start (now (out .entry)) (now (out .exit)) r ⌝ }
 {
-    match text_values(policy, d, b, text, entry) {
-        TextValues::Refused { refusal } => Written::Refused { refusal },
+    match convert_text(policy, d, b, text, entry) {
+        // Never: the text is not refused.
+        TextValues::Refused { refusal: _ } => Written { to: start, entry },
         TextValues::Ready {
             strans,
             x,
             y,
             entry: e,
-        } => Written::Through {
+        } => Written {
             to: put_records_at(out, start, b, text, strans, x, y),
             entry: e,
         },

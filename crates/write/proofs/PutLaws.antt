@@ -1,34 +1,31 @@
 -- Writing, as the code sees it: an element's entry, a block, and all blocks in turn. Assumes nothing.
-use mathlib.Core.Path.{_≡_, refl, sym, ap, _∙_, subst}
+use mathlib.Core.Path.{_≡_, sym, ap, ap₂, _∙_, subst}
 use mathlib.Core.Bool.{Bool, cond}
-use mathlib.Core.Option.{Option}
 use mathlib.Core.List.{List, [], _∷_, _++_, append-nil}
 use Prim.Native.Nat.{ℕ, suc, _+_, _-_, _≤_, _<_}
-use native.Mathlib.Nat.{zero-add}
 use native.Mathlib.Omega.{arith}
 use lib.Dec.{T}
 use lib.ListN.{length, take, drop, length-append, length-take, length-drop}
 use lib.Ieee.{Float}
 use borrow.Author.Tests.{eq-eqb, ne-eqb}
-use Rattle.refusal.specs.declared.Refusal.{Refusal}
 use Rattle.big_endian.specs.Buffer.{splice, Wrote, WroteAt}
-use Rattle.big_endian.proofs.BufferLaws.{at-start, nothing-at, part-at, same-bytes}
+use Rattle.big_endian.proofs.BufferLaws.{from-zero, nothing-at, part-at, same-bytes}
 use Rattle.conversion.specs.declared.GdsRoundingPolicy.{GdsRoundingPolicy}
 use Rattle.conversion.specs.declared.Entry.{Entry}
 use Rattle.conversion.specs.Entry.{entryOf, entryBytes, reportBytes}
-use Rattle.conversion.specs.Made.{Made}
-use Rattle.conversion.specs.Fold.{blankEntry, notedAll, standing, run}
+use Rattle.conversion.specs.declared.Deviation.{Deviation}
+use Rattle.conversion.specs.Made.{made}
+use Rattle.conversion.specs.Fold.{blankEntry, notedAll, standing}
 use Rattle.conversion.proofs.EntryLaws.{length-entry, length-report, report-append}
 use Rattle.conversion.proofs.FoldLaws.{entry-stands}
-use Rattle.sheet.specs.Element.{Element, kindOf, elementOf}
+use Rattle.sheet.specs.Element.{Element, kindOf}
 use Rattle.sheet.specs.Blocks.{maxPairs, pairCount, pairsFit, blockOf, blocksFrom}
 use Rattle.stream.specs.Structure.{Said}
 use Rattle.stream.specs.Records.{elementBytes, elementsBytes}
+use Rattle.cell.specs.Write.{writeElement}
 use Rattle.cell.specs.Cell.{writeBlocks}
 use Rattle.writing.specs.declared.Written.{Written}
-use Rattle.writing.specs.declared.Written.the-variants as W
-use Rattle.writing.specs.Steps.{stopped, putting, Owes}
-use Rattle.elements.specs.Block.{writtenBlock, Fits}
+use Rattle.elements.specs.Block.{Fits, WritesBlock}
 use Rattle.write.specs.Walk.{ElementsFit, PutsElements}
 use Rattle.write.proofs.PairLaws.{pairs-count, blocks-turn, blocks-end}
 use Rattle.write.proofs.WalkLaws.{Split, split, Reached, reached-start, reached-turn, reached-end}
@@ -65,25 +62,25 @@ module _ {policy : GdsRoundingPolicy} {d : Float} {i : ℕ} {b : List ℕ} {bs :
   abbrev entries-of : List Entry
   entries-of = entryOf i (kindOf (s .element .body)) (s .deviations)
 
-  -- what the block owes, now that it is not refused
-  owed : (part last : List ℕ) (r : Written) → Owes (writtenBlock policy d i part (elementOf b)) last r → (last ≡ splice 0 bytes part) × (r ≡ W.Through (0 + length bytes) entry-of)
-  unfolding writtenBlock run putting
-  owed part last r o =
-      subst (λ (m : Made Said). Owes (run stopped (blankEntry i (kindOf (s .element .body))) m (putting elementBytes 0 part)) last r) (s .writes)
-      (subst (λ (x : Option Element). Owes (writtenBlock policy d i part x) last r) (s .held) o)
-
-  never-refused : {X : Type 0} (part last : List ℕ) (r : Written) (x : Refusal) → Owes (writtenBlock policy d i part (elementOf b)) last r → r ≡ W.Refused x → X
-  never-refused part last r x o e = let f = owed part last r o .1 in let z : _≡_ {A = ℕ} 0 1 = cc in absurd (omega arith)
-
   block-accepted : (n : ℕ) → length bytes ≤ n → Fits policy d b n
   block-accepted n l = record { accepted = record { element = s .element; said = s .said; deviations = s .deviations; held = s .held; writes = s .writes }; room = l }
 
-  -- its bytes stand at the start of the part, and what it answers
-  block-wrote : (part last : List ℕ) (r : Written) → length bytes ≤ length part → Owes (writtenBlock policy d i part (elementOf b)) last r
-      → Wrote bytes part last (length bytes) × (r ≡ W.Through (length bytes) entry-of)
-  block-wrote part last r l o =
-      let f = owed part last r o in
-      (record { count = refl; fits = l; out = f .0 ∙ sym (at-start bytes part) }, f .1 ∙ ap (λ (n : ℕ). W.Through n entry-of) (zero-add (length bytes)))
+  -- its bytes stand at the start of the part, and its entry is answered
+  module _ {part last : List ℕ} {r : Written} (w : WritesBlock policy d i b part last r) where
+    same-element : w .element ≡ s .element
+    same-element = let g = w .held in let h = s .held in cc
+
+    same-step : made (w .writes .step .value) (w .writes .step .deviations) ≡ made (s .said) (s .deviations)
+    same-step = sym (w .writes .step .makes) ∙ ap (writeElement policy d) same-element ∙ s .writes
+
+    block-wrote : Wrote bytes part last (r .to)
+    block-wrote = let h = same-step in let g : w .writes .step .value ≡ s .said = cc in from-zero (same-bytes (ap elementBytes g) (w .writes .wrote))
+
+    block-noted : r .entry ≡ entry-of
+    block-noted =
+        let h = same-step in
+        let g : w .writes .step .deviations ≡ s .deviations = cc in
+        w .writes .entry ∙ ap₂ (λ (x : Element) (vs : List Deviation). notedAll (blankEntry i (kindOf (x .body))) vs) same-element g
 
   -- its bytes come first, and so do those of its entry
   bytes-first : length (elementsBytes ws) ≡ length bytes + length (elementsBytes (s .rest))
@@ -181,52 +178,41 @@ module _ {policy : GdsRoundingPolicy} {d : Float} {sheet before : List ℕ} {sta
     turn-fits = block-accepted here (length part) part-room
 
     -- what `elements::put_element` promises of the part
-    module _ (last : List ℕ) (r : Written) (o : Owes (writtenBlock policy d (k - 1) part (elementOf b)) last r) where
-      pub turn-never : {X : Type 0} {x : Refusal} → r ≡ W.Refused x → X
-      turn-never {x = x} e = never-refused here part last r x o e
+    module _ {last : List ℕ} {r : Written} (w : WritesBlock policy d (k - 1) b part last r) where
+      done : Wrote bytes-here part last (r .to)
+      done = block-wrote here w
 
-      module _ {m : ℕ} {entry : Entry} (e : r ≡ W.Through m entry) where
-        done : Wrote bytes-here part last (length bytes-here) × (r ≡ W.Through (length bytes-here) (entry-of here))
-        done = block-wrote here part last r part-room o
+      noted : standing (r .entry) ≡ entries-of here
+      noted = ap standing (block-noted here w) ∙ entry-stands (k - 1) (kindOf (here .element .body)) (here .deviations)
 
-        long : m ≡ length bytes-here
-        long = let f = done .1 in cc
+      pub turn-end : to + r .to ≤ length out
+      turn-end = let a = room in let c = done .count in omega arith
 
-        noted : standing entry ≡ entries-of here
-        noted =
-            let f = done .1 in
-            let g : entry ≡ entry-of here = cc in
-            ap standing g ∙ entry-stands (k - 1) (kindOf (here .element .body)) (here .deviations)
+      pub turn-report : at + length (reportBytes (standing (r .entry))) ≤ length after
+      turn-report =
+          let a = at-block .report-end in
+          let c = at-block .report-long in
+          let f = entries-first here in
+          let g : length (reportBytes (standing (r .entry))) ≡ length (reportBytes (entries-of here)) = ap (λ (l : List Entry). length (reportBytes l)) noted in
+          let l = length-report (t .fit .entries) in
+          let q = t .fit .report-room in
+          omega arith
 
-        pub turn-end : to + m ≤ length out
-        turn-end = let a = room in let c = long in omega arith
+      -- the whole output, with the part come back
+      abbrev whole : List ℕ
+      whole = take to out ++ (last ++ drop (length out - to) (drop to out))
 
-        pub turn-report : at + length (reportBytes (standing entry)) ≤ length after
-        turn-report =
-            let a = at-block .report-end in
-            let c = at-block .report-long in
-            let f = entries-first here in
-            let g : length (reportBytes (standing entry)) ≡ length (reportBytes (entries-of here)) = ap (λ (l : List Entry). length (reportBytes l)) noted in
-            let l = length-report (t .fit .entries) in
-            let q = t .fit .report-room in
-            omega arith
-
-        -- the whole output, with the part come back
-        abbrev whole : List ℕ
-        whole = take to out ++ (last ++ drop (length out - to) (drop to out))
-
-        pub turn-next : {after′ : List ℕ} {at′ : ℕ} → WroteAt (reportBytes (standing entry)) after after′ at at′ → Turns policy d sheet before start report n whole after′ (k + 1) (to + m) at′
-        turn-next {after′} {at′} w =
-            let wrote : WroteAt bytes-here out whole to (to + m) = subst (λ (j : ℕ). WroteAt bytes-here out whole to (to + j)) (sym long) (part-at turn-place (done .0)) in
-            let next = reached-turn policy d (b ∷ others) (t .fit .elements) (t .fit .entries) start before report (k - 1) b others to at out after at-block here (to + m) at′ whole after′ wrote (same-bytes (ap reportBytes noted) w) in
-            record {
-              first = omega arith;
-              within = omega arith;
-              count = t .count;
-              most = t .most;
-              fit = t .fit;
-              reached = subst (λ (j : ℕ). Reached policy d j others (t .fit .elements) (t .fit .entries) start before report (to + m) at′ whole after′) (index k (t .first)) next;
-            }
-          where
-            index : (k : ℕ) → 1 ≤ k → suc (k - 1) ≡ k + 1 - 1
-            index k h = omega arith
+      pub turn-next : {after′ : List ℕ} {at′ : ℕ} → WroteAt (reportBytes (standing (r .entry))) after after′ at at′ → Turns policy d sheet before start report n whole after′ (k + 1) (to + r .to) at′
+      turn-next {after′} {at′} v =
+          let next = reached-turn policy d (b ∷ others) (t .fit .elements) (t .fit .entries) start before report (k - 1) b others to at out after at-block here (to + r .to) at′ whole after′ (part-at turn-place done) (same-bytes (ap reportBytes noted) v) in
+          record {
+            first = omega arith;
+            within = omega arith;
+            count = t .count;
+            most = t .most;
+            fit = t .fit;
+            reached = subst (λ (j : ℕ). Reached policy d j others (t .fit .elements) (t .fit .entries) start before report (to + r .to) at′ whole after′) (index k (t .first)) next;
+          }
+        where
+          index : (k : ℕ) → 1 ≤ k → suc (k - 1) ≡ k + 1 - 1
+          index k h = omega arith

@@ -7,7 +7,6 @@ use forms::HeadForm;
 use forms::HeadPlaces;
 use refusal::Refusal;
 use writing::Measured;
-use writing::Written;
 ghost use mathlib.Core.Path.{_≡_};
 ghost use Prim.Native.Nat.{_+_, _*_, _≤_};
 ghost use lib.Dec.{T};
@@ -251,15 +250,9 @@ fn put_elements(
     let mut at: usize = 0;
     while next < n {
         let b = sheet::block(sheet, next);
-        match elements::put_element(policy, d, b, (next - 1) as u32, &mut out[to..]) {
-            Written::Refused { refusal: _ } => {
-                return to;
-            }
-            Written::Through { to: m, entry } => {
-                to = to + m;
-                at = put_entry(entry, report, at);
-            }
-        }
+        let written = elements::put_element(policy, d, b, (next - 1) as u32, &mut out[to..]);
+        to = to + written.to;
+        at = put_entry(written.entry, report, at);
         next = next + 1;
     }
     to

@@ -1,5 +1,5 @@
 -- An answer of which all is known before the first byte: any other answer to its step, and what is measured and written of it. Assumes nothing.
-use mathlib.Core.Path.{_≡_, refl, sym, ap, _∙_, subst}
+use mathlib.Core.Path.{_≡_, refl, sym, ap, _∙_}
 use mathlib.Core.List.{List}
 use Prim.Native.Nat.{ℕ}
 use native.Mathlib.Omega.{arith}
@@ -8,22 +8,40 @@ use Rattle.refusal.specs.declared.Refusal.{Refusal}
 use Rattle.big_endian.specs.Buffer.{WroteAt}
 use Rattle.conversion.specs.declared.Entry.{Entry}
 use Rattle.conversion.specs.Made.{Made, refused, made}
-use Rattle.conversion.specs.Fold.{run}
+use Rattle.conversion.specs.Fold.{notedAll, run}
 use Rattle.conversion.proofs.MadeLaws.{Yields}
 use Rattle.writing.specs.declared.Measured.the-variants as M
-use Rattle.writing.specs.declared.Written.the-variants as W
 use Rattle.writing.specs.Ready.{Ready, stopped, ready}
-use Rattle.writing.specs.Steps.{sizing, Measures, Outcome, putting, Owes, Writes}
-use Rattle.writing.specs.Steps as S
-use Rattle.writing.proofs.StepLaws.{run-through}
+use Rattle.writing.specs.Steps.{sizing, Measures, Succeeds, Writes}
+use Rattle.writing.proofs.StepLaws.{run-through, succeeds}
 
--- the step gives the value that is ready
-pub ready-yields : {A : Type 0} (e : Entry) (m : Made A) (a : A) (e′ : Entry) → ready a e′ ≡ run stopped e m ready → Yields m a
+-- the step gives the value that is ready, and the entry after it
+pub record Gives {A : Type 0} (e : Entry) (m : Made A) (a : A) (e′ : Entry) : Type 0 where
+  pub yields : Yields m a
+  pub noted : e′ ≡ notedAll e (yields .log)
+
+pub ready-gives : {A : Type 0} (e : Entry) (m : Made A) (a : A) (e′ : Entry) → ready a e′ ≡ run stopped e m ready → Gives e m a e′
 unfolding run
-ready-yields e (refused x) a e′ h = let z : _≡_ {A = ℕ} 0 1 = cc in absurd (omega arith)
-ready-yields e (made b vs) a e′ h =
+ready-gives e (refused x) a e′ h = let z : _≡_ {A = ℕ} 0 1 = cc in absurd (omega arith)
+ready-gives e (made b vs) a e′ h =
     let f : b ≡ a = cc in
-    record { log = vs; is = ap (λ (z : _). made z vs) f }
+    record { yields = record { log = vs; is = ap (λ (z : _). made z vs) f }; noted = cc }
+
+pub ready-yields : {A : Type 0} (e : Entry) (m : Made A) (a : A) (e′ : Entry) → ready a e′ ≡ run stopped e m ready → Yields m a
+ready-yields e m a e′ h = ready-gives e m a e′ h .yields
+
+-- a step that is as another one succeeds where that does
+pub succeeds-as : {A : Type 0} (e : Entry) (m n : Made A) → run stopped e m ready ≡ run stopped e n ready → Succeeds m → Succeeds n
+unfolding run
+succeeds-as e m n h s = succeeds (ready-yields e n (s .value) _ (sym (ap (λ (o : Made _). run stopped e o ready) (s .makes)) ∙ h))
+
+-- a step that succeeds is not stopped
+pub never-stopped : {A : Type 0} {X : Type 0} (e : Entry) (m : Made A) (x : Refusal) → Succeeds m → stopped x ≡ run stopped e m ready → X
+unfolding run
+never-stopped e m x s h =
+    let g = h ∙ ap (λ (n : Made _). run stopped e n ready) (s .makes) in
+    let z : _≡_ {A = ℕ} 0 1 = cc in
+    absurd (omega arith)
 
 module _ {A : Type 0} (e : Entry) (m : Made A) (r : Ready A) (h : r ≡ run stopped e m ready) where
   module _ {Z : Type 0} (stop : Refusal → Z) (k : A → Entry → Z) where
@@ -48,11 +66,7 @@ module _ {A : Type 0} (e : Entry) (m : Made A) (r : Ready A) (h : r ≡ run stop
     unfolding sizing
     measure-ready a e′ n g i = ap (λ (k : ℕ). M.Through k e′) i ∙ ready-goes-on M.Refused (sizing bytes) a e′ g
 
-    module _ (at : ℕ) (before after : List ℕ) where
-      pub write-stopped : (x : Refusal) → r ≡ stopped x → Writes bytes e m at before after (W.Refused x)
-      write-stopped x g = subst (λ (o : Outcome). Owes o after (W.Refused x)) (ready-stops S.stopped (putting bytes at before) x g) refl
-
-      pub write-ready : (a : A) (e′ : Entry) (to : ℕ) → r ≡ ready a e′ → WroteAt (bytes a) before after at to → Writes bytes e m at before after (W.Through to e′)
-      unfolding putting
-      write-ready a e′ to g w =
-          subst (λ (o : Outcome). Owes o after (W.Through to e′)) (ready-goes-on S.stopped (putting bytes at before) a e′ g) (w .out, ap (λ (k : ℕ). W.Through k e′) (w .count))
+    pub write-ready : {at : ℕ} {before after : List ℕ} (a : A) (e′ : Entry) (to : ℕ) → r ≡ ready a e′ → WroteAt (bytes a) before after at to → Writes bytes e m at before after (record { to = to; entry = e′ })
+    write-ready a e′ to g w =
+        let y = ready-gives e m a e′ (sym g ∙ h) in
+        record { step = succeeds (y .yields); wrote = w; entry = y .noted }

@@ -1,22 +1,23 @@
--- Steps in a row: an answer handed on, and two steps whose bytes stand one after the other. Assumes nothing.
+-- Steps in a row: an answer handed on, steps that succeed, and two steps whose bytes stand one after the other. Assumes nothing.
 use mathlib.Core.Path.{_≡_, refl, sym, ap, ap₂, _∙_, subst}
-use mathlib.Core.List.{List, [], _∷_, _++_, append-nil}
+use mathlib.Core.Bool.{Bool, true, false}
+use mathlib.Core.List.{List, [], _++_, append-nil}
 use Prim.Native.Nat.{ℕ, _+_, _≤_}
 use native.Mathlib.Omega.{arith}
 use lib.ListN.{length, length-append}
 use Rattle.refusal.specs.declared.Refusal.{Refusal}
 use Rattle.conversion.specs.declared.Deviation.{Deviation}
 use Rattle.conversion.specs.declared.Entry.{Entry}
-use Rattle.conversion.specs.Made.{Made, refused, made, pure, _>>=_}
+use Rattle.conversion.specs.Made.{Made, Done, refused, made, pure, need, _>>=_, _>>_}
 use Rattle.conversion.specs.Fold.{notedAll, run}
 use Rattle.conversion.proofs.FoldLaws.{noted-append, run-bind, run-map, run-same}
-use Rattle.big_endian.specs.Buffer.{splice}
-use Rattle.big_endian.proofs.BufferLaws.{splice-next}
+use Rattle.conversion.proofs.MadeLaws.{Yields, need-on, need-off, refused-then}
+use Rattle.big_endian.specs.Buffer.{splice, WroteAt}
+use Rattle.big_endian.proofs.BufferLaws.{same-bytes, then-at}
 use Rattle.writing.specs.declared.Measured.{Measured}
 use Rattle.writing.specs.declared.Measured.the-variants as M
 use Rattle.writing.specs.declared.Written.{Written}
-use Rattle.writing.specs.declared.Written.the-variants as W
-use Rattle.writing.specs.Steps.{sizing, Measures, Outcome, stopped, written, putting, Owes, Writes}
+use Rattle.writing.specs.Steps.{sizing, Measures, Succeeds, Writes}
 
 -- ---- an answer handed on
 
@@ -74,88 +75,112 @@ module _ {A B C : Type 0} (bytes₁ : A → List ℕ) (bytes₂ : B → List ℕ
     pub measure-both : (k : ℕ) (e″ : Entry) → s ≡ M.Through k e″ → Measures bytes e both (M.Through (n + k) e″)
     measure-both k e″ j = ap (after M.Refused (λ k e″. M.Through (n + k) e″)) (sym j) ∙ second
 
+-- ---- steps that succeed
+
+abbrev pub yields : {A : Type 0} {m : Made A} (s : Succeeds m) → Yields m (s .value)
+yields s = record { log = s .deviations; is = s .makes }
+
+abbrev pub succeeds : {A : Type 0} {m : Made A} {a : A} → Yields m a → Succeeds m
+succeeds {a = a} y = record { value = a; deviations = y .log; makes = y .is }
+
+pub never-refused : {A : Type 0} {X : Type 0} {m : Made A} {x : Refusal} → Succeeds m → m ≡ refused x → X
+never-refused s h = let g = s .makes in let z : _≡_ {A = ℕ} 0 1 = cc in absurd (omega arith)
+
+-- a check in front of a step that succeeds has passed
+pub past-check : {A : Type 0} (t : Bool) (x : Refusal) (m : Made A) → Succeeds (need t x >> m) → need t x >> m ≡ m
+past-check true x m s = need-on true x m refl
+past-check false x m s = never-refused s (need-off false x m refl)
+
+-- two checks that stand as one step
+pub past-checks : {A : Type 0} (t : Bool) (x : Refusal) (u : Bool) (y : Refusal) (m : Made A) → Succeeds ((need t x >> need u y) >> m) → (need t x >> need u y) >> m ≡ m
+unfolding _>>_
+past-checks true x u y m s =
+    let h = ap (λ (n : Made Done). n >> m) (need-on true x (need u y) refl) in
+    h ∙ past-check u y m (subst Succeeds h s)
+past-checks false x u y m s = never-refused s (ap (λ (n : Made Done). n >> m) (need-off false x (need u y) refl) ∙ refused-then x (λ _. m))
+
+-- the step in other words
+pub same-step : {A : Type 0} {bytes : A → List ℕ} {e : Entry} {m n : Made A} {at : ℕ} {before after : List ℕ} {r : Written} → m ≡ n → Writes bytes e m at before after r → Writes bytes e n at before after r
+same-step {bytes = bytes} {e = e} {at = at} {before = before} {after = after} {r = r} h w = subst (λ (o : Made _). Writes bytes e o at before after r) h w
+
+-- ---- writing, as a loop sees it: what is left to write, at the place reached
+
+-- a refusal; or every byte of the output, where the next one goes, and the entry
+pub data Outcome : Type 0 where
+  stopped : Refusal → Outcome
+  written : List ℕ → ℕ → Entry → Outcome
+
+-- the value's bytes from a place of the output on
+unfoldable pub putting : {A : Type 0} → (A → List ℕ) → ℕ → List ℕ → A → Entry → Outcome
+putting bytes at before a e = written (splice at (bytes a) before) (at + length (bytes a)) e
+
+module _ {A : Type 0} (bytes : A → List ℕ) (e : Entry) (m : Made A) (at : ℕ) (before after : List ℕ) where
+  -- what is written is the step's
+  pub writes : (to : ℕ) (e′ : Entry) → run stopped e m (putting bytes at before) ≡ written after to e′ → to ≤ length before → Writes bytes e m at before after (record { to = to; entry = e′ })
+  unfolding run putting
+  writes to e′ h l = go m h
+    where
+      go : (m : Made A) → run stopped e m (putting bytes at before) ≡ written after to e′ → Writes bytes e m at before after (record { to = to; entry = e′ })
+      go (refused x) h = let z : _≡_ {A = ℕ} 0 1 = cc in absurd (omega arith)
+      go (made a vs) h =
+          let k : to ≡ at + length (bytes a) = cc in
+          record { step = record { value = a; deviations = vs; makes = refl }; wrote = record { count = k; fits = omega arith; out = cc }; entry = cc }
+
+  -- and the other way round
+  pub outcome-of : {r : Written} → Writes bytes e m at before after r → run stopped e m (putting bytes at before) ≡ written after (r .to) (r .entry)
+  unfolding run putting
+  outcome-of w = let i = w .wrote .out in let j = w .wrote .count in let k = w .entry in ap (λ (n : Made A). run stopped e n (putting bytes at before)) (w .step .makes) ∙ cc
+
 -- ---- writing two steps in a row
 
--- what was written, where it was not refused
-pub record Left {A : Type 0} (bytes : A → List ℕ) (e : Entry) (m : Made A) (at : ℕ) (before cur : List ℕ) (to : ℕ) (e′ : Entry) : Type 0 where
-  pub value : A
-  pub deviations : List Deviation
-  pub writes : m ≡ made value deviations
-  pub out : cur ≡ splice at (bytes value) before
-  pub end : to ≡ at + length (bytes value)
-  pub entry : e′ ≡ notedAll e deviations
-
-pub left : {A : Type 0} (bytes : A → List ℕ) (e : Entry) (m : Made A) (at : ℕ) (before cur : List ℕ) (r : Written) (to : ℕ) (e′ : Entry)
-    → Writes bytes e m at before cur r → r ≡ W.Through to e′ → Left bytes e m at before cur to e′
-unfolding run putting
-left bytes e (refused x) at before cur r to e′ h g = let z : _≡_ {A = ℕ} 0 1 = cc in absurd (omega arith)
-left bytes e (made a vs) at before cur r to e′ h g =
-    let i = h .0 in
-    let j = h .1 in
-    record { value = a; deviations = vs; writes = refl; out = i; end = cc; entry = cc }
-
-pub stopped-by : {A : Type 0} (bytes : A → List ℕ) (e : Entry) (m : Made A) (at : ℕ) (before cur : List ℕ) (r : Written) (x : Refusal)
-    → Writes bytes e m at before cur r → r ≡ W.Refused x → m ≡ refused x
-unfolding run putting
-stopped-by bytes e (refused y) at before cur r x h g = cc
-stopped-by bytes e (made a vs) at before cur r x h g = let j = h .1 in let z : _≡_ {A = ℕ} 0 1 = cc in absurd (omega arith)
-
 module _ {A B C : Type 0} (bytes₁ : A → List ℕ) (bytes₂ : B → List ℕ) (bytes : C → List ℕ) (join : A → B → C)
-    (split : (a : A) (b : B) → bytes (join a b) ≡ bytes₁ a ++ bytes₂ b) (e : Entry) (m₁ : Made A) (m₂ : Made B) (at : ℕ) (before : List ℕ) where
-  abbrev joined : Made A → Made B → Made C
-  joined m n = m >>= λ a. n >>= λ b. pure (join a b)
+    (split : (a : A) (b : B) → bytes (join a b) ≡ bytes₁ a ++ bytes₂ b) (e : Entry) (m₁ : Made A) (m₂ : Made B) where
+  joined : {a : A} {vs : List Deviation} {b : B} {ws : List Deviation} → m₁ ≡ made a vs → m₂ ≡ made b ws → both bytes₁ bytes₂ bytes join split e m₁ m₂ ≡ made (join a b) (vs ++ (ws ++ []))
+  unfolding _>>=_
+  joined h g = ap₂ (λ (m : Made A) (n : Made B). m >>= λ a. n >>= λ b. pure (join a b)) h g
 
-  refused-first : (x : Refusal) (last : List ℕ) → Writes bytes e (joined (refused x) m₂) at before last (W.Refused x)
-  unfolding run _>>=_
-  refused-first x last = refl
+  pub write-both : {at : ℕ} {before cur last : List ℕ} {r s : Written} → Writes bytes₁ e m₁ at before cur r → Writes bytes₂ (r .entry) m₂ (r .to) cur last s
+      → Writes bytes e (both bytes₁ bytes₂ bytes join split e m₁ m₂) at before last s
+  write-both u v =
+      let a = u .step .value in
+      let b = v .step .value in
+      let vs = u .step .deviations in
+      let ws = v .step .deviations in
+      record {
+        step = record { value = join a b; deviations = vs ++ (ws ++ []); makes = joined (u .step .makes) (v .step .makes) };
+        wrote = same-bytes (sym (split a b)) (then-at (u .wrote) (v .wrote));
+        entry = v .entry
+            ∙ ap (λ (x : Entry). notedAll x ws) (u .entry)
+            ∙ sym (noted-append e vs ws)
+            ∙ ap (λ (s : List Deviation). notedAll e (vs ++ s)) (sym (append-nil ws));
+      }
 
-  refused-second : (a : A) (vs : List Deviation) (x : Refusal) (last : List ℕ) → Writes bytes e (joined (made a vs) (refused x)) at before last (W.Refused x)
-  unfolding run _>>=_
-  refused-second a vs x last = refl
+-- ---- a step whose value is wrapped
 
-  written-both : (a : A) (vs : List Deviation) (b : B) (ws : List Deviation) (cur last : List ℕ) (to end : ℕ) → cur ≡ splice at (bytes₁ a) before → to ≡ at + length (bytes₁ a)
-      → last ≡ splice to (bytes₂ b) cur → end ≡ to + length (bytes₂ b) → at + length (bytes₁ a) ≤ length before
-      → Writes bytes e (joined (made a vs) (made b ws)) at before last (W.Through end (notedAll (notedAll e vs) ws))
-  unfolding run _>>=_ putting
-  written-both a vs b ws cur last to end i j k l h =
-      let q : at + length (bytes (join a b)) ≡ end = ap (λ (s : List ℕ). at + length s) (split a b) ∙ simp length-append (omega arith) in (
-        k ∙ ap (splice to (bytes₂ b)) i ∙ splice-next at to (bytes₁ a) (bytes₂ b) before j h ∙ ap (λ (s : List ℕ). splice at s before) (sym (split a b)),
-        ap₂ W.Through (sym q) (sym (noted-append e vs ws) ∙ ap (λ (s : List Deviation). notedAll e (vs ++ s)) (sym (append-nil ws))),
-      )
-
-  pub write-first-refused : (cur last : List ℕ) (r : Written) (x : Refusal) → Writes bytes₁ e m₁ at before cur r → r ≡ W.Refused x
-      → Writes bytes e (m₁ >>= λ a. m₂ >>= λ b. pure (join a b)) at before last (W.Refused x)
-  write-first-refused cur last r x h g =
-      subst (λ (m : Made A). Writes bytes e (joined m m₂) at before last (W.Refused x)) (sym (stopped-by bytes₁ e m₁ at before cur r x h g)) (refused-first x last)
-
-  module _ (cur : List ℕ) (to : ℕ) (e′ : Entry) (l : Left bytes₁ e m₁ at before cur to e′) where
-    pub write-second-refused : (last : List ℕ) (s : Written) (x : Refusal) → Writes bytes₂ e′ m₂ to cur last s → s ≡ W.Refused x
-        → Writes bytes e (m₁ >>= λ a. m₂ >>= λ b. pure (join a b)) at before last (W.Refused x)
-    write-second-refused last s x h g =
-        subst (λ (m : Made A). Writes bytes e (joined m m₂) at before last (W.Refused x)) (sym (l .writes))
-        (subst (λ (n : Made B). Writes bytes e (joined (made (l .value) (l .deviations)) n) at before last (W.Refused x)) (sym (stopped-by bytes₂ e′ m₂ to cur last s x h g))
-        (refused-second (l .value) (l .deviations) x last))
-
-    pub write-both : (last : List ℕ) (s : Written) (end : ℕ) (e″ : Entry) → Writes bytes₂ e′ m₂ to cur last s → s ≡ W.Through end e″ → at + length (bytes₁ (l .value)) ≤ length before
-        → Writes bytes e (m₁ >>= λ a. m₂ >>= λ b. pure (join a b)) at before last (W.Through end e″)
-    write-both last s end e″ h g room =
-        let k = left bytes₂ e′ m₂ to cur last s end e″ h g in
-        let f : e″ ≡ notedAll (notedAll e (l .deviations)) (k .deviations) = k .entry ∙ ap (λ (x : Entry). notedAll x (k .deviations)) (l .entry) in
-        subst (λ (m : Made A). Writes bytes e (joined m m₂) at before last (W.Through end e″)) (sym (l .writes))
-        (subst (λ (n : Made B). Writes bytes e (joined (made (l .value) (l .deviations)) n) at before last (W.Through end e″)) (sym (k .writes))
-        (subst (λ (x : Entry). Writes bytes e (joined (made (l .value) (l .deviations)) (made (k .value) (k .deviations))) at before last (W.Through end x)) (sym f)
-        (written-both (l .value) (l .deviations) (k .value) (k .deviations) cur last to end (l .out) (l .end) (k .out) (k .end) room)))
-
--- ---- a step whose value is wrapped: its bytes stay
-
-module _ {A B : Type 0} (bytes₁ : A → List ℕ) (bytes : B → List ℕ) (wrap : A → B) (kept : (a : A) → bytes (wrap a) ≡ bytes₁ a) (e : Entry) (m : Made A) where
-  pub measure-wrapped : (r : Measured) → Measures bytes₁ e m r → Measures bytes e (m >>= λ a. pure (wrap a)) r
+module _ {A B : Type 0} (bytes₁ : A → List ℕ) (bytes : B → List ℕ) (wrap : A → B) (e : Entry) (m : Made A) where
+  -- its bytes stay
+  pub measure-wrapped : ((a : A) → bytes (wrap a) ≡ bytes₁ a) → (r : Measured) → Measures bytes₁ e m r → Measures bytes e (m >>= λ a. pure (wrap a)) r
   unfolding sizing
-  measure-wrapped r h =
+  measure-wrapped kept r h =
       h ∙ run-same M.Refused e m _ _ (λ a e′. ap (λ (s : List ℕ). M.Through (length s) e′) (sym (kept a))) ∙ sym (run-map M.Refused e m wrap (sizing bytes))
 
-  pub write-wrapped : (at : ℕ) (before after : List ℕ) (r : Written) → Writes bytes₁ e m at before after r → Writes bytes e (m >>= λ a. pure (wrap a)) at before after r
-  unfolding putting
-  write-wrapped at before after r h =
-      subst (λ (o : Outcome). Owes o after r)
-      (run-same stopped e m _ _ (λ a e′. ap (λ (s : List ℕ). written (splice at s before) (at + length s) e′) (sym (kept a))) ∙ sym (run-map stopped e m wrap (putting bytes at before))) h
+  wrapped : {a : A} {vs : List Deviation} → m ≡ made a vs → (m >>= λ a. pure (wrap a)) ≡ made (wrap a) (vs ++ [])
+  unfolding _>>=_
+  wrapped h = ap (λ (n : Made A). n >>= λ a. pure (wrap a)) h
+
+  -- its bytes may stand after others
+  module _ {at : ℕ} {before : List ℕ} {to : ℕ} {cur after : List ℕ} {r : Written} (w : Writes bytes₁ e m to cur after r) where
+    wrapped-at : WroteAt (bytes (wrap (w .step .value))) before after at (r .to) → Writes bytes e (m >>= λ a. pure (wrap a)) at before after r
+    wrapped-at v =
+        let vs = w .step .deviations in
+        record {
+          step = record { value = wrap (w .step .value); deviations = vs ++ []; makes = wrapped (w .step .makes) };
+          wrote = v;
+          entry = w .entry ∙ ap (notedAll e) (sym (append-nil vs));
+        }
+
+    pub write-after : {front : List ℕ} → WroteAt front before cur at to → bytes (wrap (w .step .value)) ≡ front ++ bytes₁ (w .step .value) → Writes bytes e (m >>= λ a. pure (wrap a)) at before after r
+    write-after v h = wrapped-at (same-bytes (sym h) (then-at v (w .wrote)))
+
+  pub write-wrapped : ((a : A) → bytes (wrap a) ≡ bytes₁ a) → {at : ℕ} {before after : List ℕ} {r : Written} → Writes bytes₁ e m at before after r → Writes bytes e (m >>= λ a. pure (wrap a)) at before after r
+  write-wrapped kept w = wrapped-at w (same-bytes (sym (kept (w .step .value))) (w .wrote))

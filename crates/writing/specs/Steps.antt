@@ -1,18 +1,18 @@
 -- What measuring and writing promise of a step of the definitions (a `Made A` of conversion, whose value has bytes in the structure).
--- A step is run against the element's report entry: it is refused, or its value takes its bytes and the entry its deviations. Assumes nothing.
+-- A step is run against the element's report entry: it is refused, or its value takes its bytes and the entry its deviations. Measuring tells which;
+-- only a step that is not refused is written. Assumes nothing.
 use mathlib.Core.Path.{_≡_}
 use mathlib.Core.List.{List}
-use Prim.Native.Nat.{ℕ, _+_}
+use Prim.Native.Nat.{ℕ}
 use lib.ListN.{length}
-use Rattle.refusal.specs.declared.Refusal.{Refusal}
+use Rattle.conversion.specs.declared.Deviation.{Deviation}
 use Rattle.conversion.specs.declared.Entry.{Entry}
-use Rattle.conversion.specs.Made.{Made}
-use Rattle.conversion.specs.Fold.{run}
-use Rattle.big_endian.specs.Buffer.{splice}
+use Rattle.conversion.specs.Made.{Made, made}
+use Rattle.conversion.specs.Fold.{notedAll, run}
+use Rattle.big_endian.specs.Buffer.{WroteAt}
 use Rattle.writing.specs.declared.Measured.{Measured}
 use Rattle.writing.specs.declared.Measured.the-variants as M
 use Rattle.writing.specs.declared.Written.{Written}
-use Rattle.writing.specs.declared.Written.the-variants as W
 
 -- ---- measuring
 
@@ -26,20 +26,14 @@ Measures bytes e m r = r ≡ run M.Refused e m (sizing bytes)
 
 -- ---- writing
 
--- a refusal; or every byte of the output, where the next one goes, and the entry
-pub data Outcome : Type 0 where
-  stopped : Refusal → Outcome
-  written : List ℕ → ℕ → Entry → Outcome
+-- the step gives a value: no check refuses it
+pub record Succeeds {A : Type 0} (m : Made A) : Type 0 where
+  pub value : A
+  pub deviations : List Deviation
+  pub makes : m ≡ made value deviations
 
--- the value's bytes from a place of the output on
-unfoldable pub putting : {A : Type 0} → (A → List ℕ) → ℕ → List ℕ → A → Entry → Outcome
-putting bytes at before a e = written (splice at (bytes a) before) (at + length (bytes a)) e
-
--- what the code's answer and the output owe an outcome
-abbrev pub Owes : Outcome → List ℕ → Written → Type 0
-Owes (stopped x) after r = r ≡ W.Refused x
-Owes (written bs to e) after r = (after ≡ bs) × (r ≡ W.Through to e)
-
--- the answer is the step's, and so is every byte of the output where it is not refused
-abbrev pub Writes : {A : Type 0} → (A → List ℕ) → Entry → Made A → ℕ → List ℕ → List ℕ → Written → Type 0
-Writes bytes e m at before after r = Owes (run stopped e m (putting bytes at before)) after r
+-- The answer and every byte of the output are those of the step's value: its bytes stand from a place on and all others stay; the next byte goes after them, and the entry takes its deviations.
+pub record Writes {A : Type 0} (bytes : A → List ℕ) (e : Entry) (m : Made A) (at : ℕ) (before after : List ℕ) (r : Written) : Type 0 where
+  pub step : Succeeds m
+  pub wrote : WroteAt (bytes (step .value)) before after at (r .to)
+  pub entry : r .entry ≡ notedAll e (step .deviations)

@@ -8,8 +8,8 @@ pub enum Measured {
     Through { length: usize, entry: Entry },
 }
 
-// Written: a refusal, and then what was written is of no use; or where the next byte goes, with the element's entry after the step.
-pub enum Written {
-    Refused { refusal: Refusal },
-    Through { to: usize, entry: Entry },
+// Written: where the next byte goes, with the element's entry after the step.
+pub struct Written {
+    pub to: usize,
+    pub entry: Entry,
 }

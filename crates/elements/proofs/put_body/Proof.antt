@@ -12,10 +12,10 @@ use Rattle.elements.proofs.put_body.Statement.{statement}
 use Rattle.elements.proofs.put_body.Tie as tie
 
 room : (k : tie.Start) {t : BodyPlaces} → k .args .body ≡ t → Room (k .args .b .now) t (length (k .args .part .now))
-room k h = room-of h (k .pre .0) (k .pre .1 .1)
+room k h = room-of h (k .pre .0) (k .pre .1 .1 .1)
 
 few : (k : tie.Start) → k .args .entry .count ≤ 16
-few k = let n = k .pre .1 .0 in omega arith
+few k = let n = k .pre .1 .1 .0 in omega arith
 
 enum-known-body : tie.Need-enum-known-body
 enum-known-body c = search needs
@@ -24,8 +24,10 @@ put-polygon-requires : tie.Need-put-polygon-requires
 unfolding bodyLength
 put-polygon-requires c κs =
     let s = c .before .before .before .before .before .before in
-    let r = room s (c .before .before .body .given .1) in
-    (r .inside, (r .fits, few s))
+    let a = s .args in
+    let g = c .before .before .body .given in
+    let r = room s (g .1) in
+    (r .inside, (polygon-as (a .policy) (a .d) (a .b .now) (g .0 .0) (g .1) .accepts (s .pre .1 .0), (r .fits, few s)))
 
 enum-known-body-2 : tie.Need-enum-known-body-2
 enum-known-body-2 c = search needs
@@ -34,8 +36,10 @@ put-path-requires : tie.Need-put-path-requires
 unfolding bodyLength
 put-path-requires c κs =
     let s = c .before .before .before .before .before .before in
-    let r = room s (c .before .before .body2 .given .1) in
-    (r .inside, (s .pre .1 .0, r .fits))
+    let a = s .args in
+    let g = c .before .before .body2 .given in
+    let r = room s (g .1) in
+    (r .inside, (path-as (a .policy) (a .d) (a .b .now) (g .0 .0) (g .1) .accepts (s .pre .1 .0), (s .pre .1 .1 .0, r .fits)))
 
 enum-known-body-3 : tie.Need-enum-known-body-3
 enum-known-body-3 c = search needs
@@ -44,8 +48,10 @@ put-text-requires : tie.Need-put-text-requires
 unfolding bodyLength
 put-text-requires c κs =
     let s = c .before .before .before .before .before .before in
-    let r = room s (c .before .before .body3 .given .1) in
-    (r .inside, (omega (arith, few s), r .fits))
+    let a = s .args in
+    let g = c .before .before .body3 .given in
+    let r = room s (g .1) in
+    (r .inside, (text-as (a .policy) (a .d) (a .b .now) (g .0 .0) (g .1) .accepts (s .pre .1 .0), (omega (arith, few s), r .fits)))
 
 enum-known-body-4 : tie.Need-enum-known-body-4
 enum-known-body-4 c = search needs
@@ -54,8 +60,10 @@ put-node-requires : tie.Need-put-node-requires
 unfolding bodyLength
 put-node-requires c κs =
     let s = c .before .before .before .before .before .before in
-    let r = room s (c .before .before .body4 .given .1) in
-    (r .inside, (r .fits, few s))
+    let a = s .args in
+    let g = c .before .before .body4 .given in
+    let r = room s (g .1) in
+    (r .inside, (node-as (a .policy) (a .d) (a .b .now) (g .0 .0) (g .1) .accepts (s .pre .1 .0), (r .fits, few s)))
 
 enum-known-body-5 : tie.Need-enum-known-body-5
 enum-known-body-5 c = search needs
@@ -64,8 +72,10 @@ put-reference-requires : tie.Need-put-reference-requires
 unfolding bodyLength
 put-reference-requires c κs =
     let s = c .before .before .before .before .before .before in
-    let r = room s (c .before .before .body5 .given .1) in
-    (r .inside, (few s, r .fits))
+    let a = s .args in
+    let g = c .before .before .body5 .given in
+    let r = room s (g .1) in
+    (r .inside, (reference-as (a .policy) (a .d) (a .b .now) (g .0 .0) (g .1) .accepts (s .pre .1 .0), (few s, r .fits)))
 
 same-length : tie.Need-same-length
 same-length c = search needs
@@ -74,8 +84,7 @@ returns : tie.Need-returns
 returns c =
     let a = c .before .before .before .before .before .before .before .before .before .args in
     let g = c .before .before .before .before .before .body .given in
-    let r = c .before .before .put-polygon in
-    polygon-as (a .policy) (a .d) (a .b .now) (g .0 .0) (g .1) .writes (a .entry) 0 (a .part .now) (r .last .1 .1 .1 .1 .0) (r .result) (r .ensures)
+    polygon-as (a .policy) (a .d) (a .b .now) (g .0 .0) (g .1) .writes (c .before .before .put-polygon .ensures)
 
 same-length-2 : tie.Need-same-length-2
 same-length-2 c = search needs
@@ -84,8 +93,7 @@ returns-2 : tie.Need-returns-2
 returns-2 c =
     let a = c .before .before .before .before .before .before .before .before .before .args in
     let g = c .before .before .before .before .before .body2 .given in
-    let r = c .before .before .put-path in
-    path-as (a .policy) (a .d) (a .b .now) (g .0 .0) (g .1) .writes (a .entry) 0 (a .part .now) (r .last .1 .1 .1 .1 .0) (r .result) (r .ensures)
+    path-as (a .policy) (a .d) (a .b .now) (g .0 .0) (g .1) .writes (c .before .before .put-path .ensures)
 
 same-length-3 : tie.Need-same-length-3
 same-length-3 c = search needs
@@ -94,8 +102,7 @@ returns-3 : tie.Need-returns-3
 returns-3 c =
     let a = c .before .before .before .before .before .before .before .before .before .args in
     let g = c .before .before .before .before .before .body3 .given in
-    let r = c .before .before .put-text in
-    text-as (a .policy) (a .d) (a .b .now) (g .0 .0) (g .1) .writes (a .entry) 0 (a .part .now) (r .last .1 .1 .1 .1 .0) (r .result) (r .ensures)
+    text-as (a .policy) (a .d) (a .b .now) (g .0 .0) (g .1) .writes (c .before .before .put-text .ensures)
 
 same-length-4 : tie.Need-same-length-4
 same-length-4 c = search needs
@@ -104,8 +111,7 @@ returns-4 : tie.Need-returns-4
 returns-4 c =
     let a = c .before .before .before .before .before .before .before .before .before .args in
     let g = c .before .before .before .before .before .body4 .given in
-    let r = c .before .before .put-node in
-    node-as (a .policy) (a .d) (a .b .now) (g .0 .0) (g .1) .writes (a .entry) 0 (a .part .now) (r .last .1 .1 .1 .1 .0) (r .result) (r .ensures)
+    node-as (a .policy) (a .d) (a .b .now) (g .0 .0) (g .1) .writes (c .before .before .put-node .ensures)
 
 same-length-5 : tie.Need-same-length-5
 same-length-5 c = search needs
@@ -114,8 +120,7 @@ returns-5 : tie.Need-returns-5
 returns-5 c =
     let a = c .before .before .before .before .before .before .before .before .before .args in
     let g = c .before .before .before .before .before .body5 .given in
-    let r = c .before .before .put-reference in
-    reference-as (a .policy) (a .d) (a .b .now) (g .0 .0) (g .1) .writes (a .entry) 0 (a .part .now) (r .last .1 .1 .1 .1 .0) (r .result) (r .ensures)
+    reference-as (a .policy) (a .d) (a .b .now) (g .0 .0) (g .1) .writes (c .before .before .put-reference .ensures)
 
 pub put-body-spec : {M : Type 1} → statement M
 put-body-spec =

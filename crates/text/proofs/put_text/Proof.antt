@@ -1,22 +1,32 @@
--- The records, or a refusal before the first byte. Assumes nothing.
-use mathlib.Core.Path.{sym, ap, subst}
+-- `text::put_text` meets its contract: the values are ready, since nothing is refused, and the records are written. Assumes nothing.
+use mathlib.Core.Path.{_≡_, sym, ap, _∙_, subst}
 use Prim.Native.Nat.{ℕ, _+_, _≤_}
 use lib.ListN.{length}
 use mir.Syntax.{w32}
 use mir.Val.{SFits}
 use mir.ValLaws.{toZ-ofZ}
-use Rattle.writing.proofs.ReadyLaws.{write-stopped, write-ready}
+use Rattle.conversion.specs.Fold.{run}
+use Rattle.cell.specs.Write.{writeText}
+use Rattle.forms.specs.Forms.{textAt}
+use Rattle.writing.specs.Ready.{stopped, ready}
+use Rattle.writing.proofs.ReadyLaws.{never-stopped, write-ready}
 use Rattle.text.specs.Text.{textBytes, textOf, readyOf}
-use Rattle.text.proofs.TextLaws.{ready-short, ready-length, same-point}
+use Rattle.text.proofs.TextLaws.{ready-past, ready-short, ready-length, same-point}
 use borrow.Author.Needs.{needs}
 use Rattle.text.proofs.put_text.Statement.{statement}
 use Rattle.text.proofs.put_text.Tie as tie
 
-text-values-requires : tie.Need-text-values-requires
-text-values-requires c κs = search needs
+-- the values are the definition's
+is : (k : tie.After-convert-text) → readyOf (k .before .before .before .args .b .now) (k .before .before .before .args .text) (k .convert-text .result) ≡ run stopped (k .before .before .before .args .entry) (writeText (k .before .before .before .args .policy) (k .before .before .before .args .d) (textAt (k .before .before .before .args .b .now) (k .before .before .before .args .text))) ready
+is k =
+    let a = k .before .before .before .args in
+    ready-past (a .policy) (a .d) (textAt (a .b .now) (a .text)) (a .entry) _ (k .before .before .before .pre .1 .0) (k .convert-text .ensures)
 
-enum-known-refusal : tie.Need-enum-known-refusal
-enum-known-refusal c = search needs
+convert-text-requires : tie.Need-convert-text-requires
+convert-text-requires c κs = search needs
+
+enum-told : tie.Need-enum-told
+enum-told c = search needs
 
 enum-known-strans : tie.Need-enum-known-strans
 enum-known-strans c = search needs
@@ -26,17 +36,17 @@ put-records-at-requires c κs =
     let s = c .before .before .before .before .before .before .before in
     let a = s .args in
     let g = c .before .before .strans .given in
-    let r = c .before .before .before .before .text-values in
-    let l = ready-length (a .b .now) (a .text) (s .pre .0 .string-in) (a .policy) (a .d) (a .entry) (r .result) (r .ensures) (g .0 .0) (g .0 .1 .0) (g .0 .1 .1 .0) (g .0 .1 .1 .1 .0) (g .1) in
-    let m = ready-short (a .b .now) (a .text) (s .pre .0 .string-in) (a .policy) (a .d) (a .entry) (r .result) (r .ensures) (g .0 .0) (g .0 .1 .0) (g .0 .1 .1 .0) (g .0 .1 .1 .1 .0) (g .1) in
-    (s .pre .0 .string-in, (m, subst (λ (n : ℕ). a .start + n ≤ length (a .out .now)) (sym l) (s .pre .1 .1)))
+    let r = c .before .before .before .before .convert-text .result in
+    let i = is (c .before .before .before .before) in
+    let l = ready-length (a .b .now) (a .text) (s .pre .0 .string-in) (a .policy) (a .d) (a .entry) r i (g .0 .0) (g .0 .1 .0) (g .0 .1 .1 .0) (g .0 .1 .1 .1 .0) (g .1) in
+    let m = ready-short (a .b .now) (a .text) (s .pre .0 .string-in) (a .policy) (a .d) (a .entry) r i (g .0 .0) (g .0 .1 .0) (g .0 .1 .1 .0) (g .0 .1 .1 .1 .0) (g .1) in
+    (s .pre .0 .string-in, (m, subst (λ (n : ℕ). a .start + n ≤ length (a .out .now)) (sym l) (s .pre .1 .1 .1)))
 
 returns : tie.Need-returns
 returns c =
-    let a = c .before .before .before .before .before .before .args in
-    let r = c .before .before .before .text-values in
-    let g = c .before .refusal .given in
-    write-stopped (a .entry) _ (readyOf (a .b .now) (a .text) (r .result)) (r .ensures) textBytes (a .start) (a .out .now) _ (g .0 .0) (ap (readyOf (a .b .now) (a .text)) (g .1))
+    let a = c .before .before .before .before .before .args in
+    let g = c .enum-told .given in
+    never-stopped (a .entry) (writeText (a .policy) (a .d) (textAt (a .b .now) (a .text))) (g .0 .0) (c .before .before .before .before .before .pre .1 .0) (ap (readyOf (a .b .now) (a .text)) (sym (g .1)) ∙ is (c .before .before))
 
 same-length : tie.Need-same-length
 same-length c = search needs
@@ -44,22 +54,20 @@ same-length c = search needs
 returns-2 : tie.Need-returns-2
 returns-2 c =
     let a = c .before .before .before .before .before .before .before .before .before .before .args in
-    let r = c .before .before .before .before .before .before .before .text-values in
     let v = c .before .before .before .before .before .strans .given in
     let x = v .0 .1 .0 in
     let y = v .0 .1 .1 .0 in
-    let w = textOf (a .b .now) (a .text) (v .0 .0) x y in
     let f : SFits w32 x = search needs in
     let h : SFits w32 y = search needs in
     let p = same-point (a .b .now) (a .text) (v .0 .0) x y _ _ (toZ-ofZ w32 x f) (toZ-ofZ w32 y h) (c .before .before .put-records-at .ensures) in
-    write-ready (a .entry) _ (readyOf (a .b .now) (a .text) (r .result)) (r .ensures) textBytes (a .start) (a .out .now) _ w (v .0 .1 .1 .1 .0) _ (ap (readyOf (a .b .now) (a .text)) (v .1)) (p .wrote)
+    write-ready (a .entry) _ (readyOf (a .b .now) (a .text) (c .before .before .before .before .before .before .before .convert-text .result)) (is (c .before .before .before .before .before .before .before)) textBytes (textOf (a .b .now) (a .text) (v .0 .0) x y) (v .0 .1 .1 .1 .0) _ (ap (readyOf (a .b .now) (a .text)) (v .1)) (p .wrote)
 
 pub put-text-spec : {M : Type 1} → statement M
 put-text-spec =
     tie.close
     (tie.spec
-    text-values-requires
-    enum-known-refusal
+    convert-text-requires
+    enum-told
     enum-known-strans
     put-records-at-requires
     returns

@@ -3,7 +3,7 @@ use Prim.Native.Nat.{_-_}
 use native.Mathlib.Omega.{arith}
 use borrow.Author.Needs.{needs}
 use Rattle.write.proofs.PairLaws.{pairs-count, block-in}
-use Rattle.write.proofs.PutLaws.{Turns, turns-start, turns-end, out-same, report-same, index-small, turn-place, turn-fits, turn-never, turn-end, turn-report, turn-next}
+use Rattle.write.proofs.PutLaws.{Turns, turns-start, turns-end, out-same, report-same, index-small, turn-place, turn-fits, turn-end, turn-report, turn-next}
 use Rattle.write.proofs.put_elements.Statement.{statement}
 use Rattle.write.proofs.put_elements.Tie as tie
 
@@ -23,9 +23,7 @@ cast-n : tie.Need-cast-n Inv-loop μ-loop
 cast-n c = search needs
 
 loop-holds : tie.Need-loop-holds Inv-loop μ-loop
-loop-holds c =
-    let s = c .before .before .before .before in
-    turns-start (s .pre .0) (c .u32-at .ensures) (s .pre .1)
+loop-holds c = turns-start (c .before .before .before .before .pre .0) (c .u32-at .ensures) (c .before .before .before .before .pre .1)
 
 block-requires : tie.Need-block-requires Inv-loop μ-loop
 block-requires c κs =
@@ -37,7 +35,9 @@ sub-put-element : tie.Need-sub-put-element Inv-loop μ-loop
 sub-put-element c = search needs
 
 cast-put-element : tie.Need-cast-put-element Inv-loop μ-loop
-cast-put-element c = let i = index-small (c .before .before .loop .inv) in omega arith
+cast-put-element c =
+    let i = index-small (c .before .before .loop .inv) in
+    omega arith
 
 sub-put-element-2 : tie.Need-sub-put-element-2 Inv-loop μ-loop
 sub-put-element-2 c = turn-place (c .before .before .loop .inv) (c .before .loop-test .taken) (c .block .ensures)
@@ -51,63 +51,40 @@ part-put-element-end c = search needs
 put-element-requires : tie.Need-put-element-requires Inv-loop μ-loop
 put-element-requires c κs = turn-fits (c .before .before .before .loop .inv) (c .before .before .loop-test .taken) (c .before .block .ensures)
 
-enum-told : tie.Need-enum-told Inv-loop μ-loop
-enum-told c = search needs
-
-same-length : tie.Need-same-length Inv-loop μ-loop
-same-length c =
-    let p = c .before .before .before .before in
-    turn-never (p .before .before .before .before .loop .inv) (p .before .before .before .loop-test .taken) (p .before .before .block .ensures) (p .put-element .last .1 .1 .1 .1 .0) (p .put-element .result) (p .put-element .ensures) (c .enum-told .given .1)
-
-same-length-2 : tie.Need-same-length-2 Inv-loop μ-loop
-same-length-2 c =
-    let p = c .before .before .before .before in
-    turn-never (p .before .before .before .before .loop .inv) (p .before .before .before .loop-test .taken) (p .before .before .block .ensures) (p .put-element .last .1 .1 .1 .1 .0) (p .put-element .result) (p .put-element .ensures) (c .enum-told .given .1)
-
-returns : tie.Need-returns Inv-loop μ-loop
-returns c =
-    let p = c .before .before .before .before in
-    turn-never (p .before .before .before .before .loop .inv) (p .before .before .before .loop-test .taken) (p .before .before .block .ensures) (p .put-element .last .1 .1 .1 .1 .0) (p .put-element .result) (p .put-element .ensures) (c .enum-told .given .1)
-
-enum-known-m : tie.Need-enum-known-m Inv-loop μ-loop
-enum-known-m c = search needs
-
 add-to : tie.Need-add-to Inv-loop μ-loop
 add-to c =
-    let p = c .before .before .before .before .before in
-    let e = turn-end (p .before .before .before .before .loop .inv) (p .before .before .before .loop-test .taken) (p .before .before .block .ensures) (p .put-element .last .1 .1 .1 .1 .0) (p .put-element .result) (p .put-element .ensures) (c .before .m .given .1) in
-    let o = out-same (p .before .before .before .before .loop .inv) in
-    let q = c .before .before .before .before .before .before .before .before .before .before .before .before .before .before .good .1 .1 .1 .0 in
+    let v = c .before .before .before .before .before .before .before .loop .inv in
+    let e = turn-end v (c .before .before .before .before .before .before .loop-test .taken) (c .before .before .before .before .before .block .ensures) (c .before .before .before .put-element .ensures) in
+    let o = out-same v in
+    let q = c .before .before .before .before .before .before .before .before .before .before .before .before .good .1 .1 .1 .0 in
     omega arith
 
 put-entry-requires : tie.Need-put-entry-requires Inv-loop μ-loop
-put-entry-requires c κs =
-    let p = c .before .before .before .before .before .before in
-    turn-report (p .before .before .before .before .loop .inv) (p .before .before .before .loop-test .taken) (p .before .before .block .ensures) (p .put-element .last .1 .1 .1 .1 .0) (p .put-element .result) (p .put-element .ensures) (c .before .before .m .given .1)
+put-entry-requires c κs = turn-report (c .before .before .before .before .before .before .before .before .loop .inv) (c .before .before .before .before .before .before .before .loop-test .taken) (c .before .before .before .before .before .before .block .ensures) (c .before .before .before .before .put-element .ensures)
 
 add-next : tie.Need-add-next Inv-loop μ-loop
 add-next c =
-    let l = c .before .before .before .before .before .before .before .before .before .before .before .before .before .loop in
+    let l = c .before .before .before .before .before .before .before .before .before .before .before .loop in
     let i = l .inv .most in
     let j = l .inv .within in
     omega arith
 
 loop-less : tie.Need-loop-less Inv-loop μ-loop
-loop-less c = let h = c .before .before .before .before .before .before .before .before .before .before .before .before .loop-test .taken in omega arith
+loop-less c =
+    let h = c .before .before .before .before .before .before .before .before .before .before .loop-test .taken in
+    omega arith
 
 loop-again : tie.Need-loop-again Inv-loop μ-loop
-loop-again c =
-    let p = c .before .before .before .before .before .before .before .before .before in
-    turn-next (p .before .before .before .before .loop .inv) (p .before .before .before .loop-test .taken) (p .before .before .block .ensures) (p .put-element .last .1 .1 .1 .1 .0) (p .put-element .result) (p .put-element .ensures) (c .before .before .before .before .before .m .given .1) (c .before .before .put-entry .ensures)
+loop-again c = turn-next (c .before .before .before .before .before .before .before .before .before .before .before .loop .inv) (c .before .before .before .before .before .before .before .before .before .before .loop-test .taken) (c .before .before .before .before .before .before .before .before .before .block .ensures) (c .before .before .before .before .before .before .before .put-element .ensures) (c .before .before .put-entry .ensures)
 
-same-length-3 : tie.Need-same-length-3 Inv-loop μ-loop
-same-length-3 c = out-same (c .before .loop .inv)
+same-length : tie.Need-same-length Inv-loop μ-loop
+same-length c = out-same (c .before .loop .inv)
 
-same-length-4 : tie.Need-same-length-4 Inv-loop μ-loop
-same-length-4 c = report-same (c .before .loop .inv)
+same-length-2 : tie.Need-same-length-2 Inv-loop μ-loop
+same-length-2 c = report-same (c .before .loop .inv)
 
-returns-2 : tie.Need-returns-2 Inv-loop μ-loop
-returns-2 c = turns-end (c .before .loop .inv) (c .loop-test .left)
+returns : tie.Need-returns Inv-loop μ-loop
+returns c = turns-end (c .before .loop .inv) (c .loop-test .left)
 
 pub put-elements-spec : {M : Type 1} → statement M
 put-elements-spec =
@@ -125,16 +102,11 @@ put-elements-spec =
     part-put-element-start
     part-put-element-end
     put-element-requires
-    enum-told
-    same-length
-    same-length-2
-    returns
-    enum-known-m
     add-to
     put-entry-requires
     add-next
     loop-less
     loop-again
-    same-length-3
-    same-length-4
-    returns-2)
+    same-length
+    same-length-2
+    returns)

@@ -1,0 +1,221 @@
+-- `points::put_converted` meets its contract. What is left to convert and write, run from the entry and the place reached, stays what the whole was, and succeeds; the measure is how many points are left. Assumes nothing.
+use mathlib.Core.Path.{_≡_, refl, sym, _∙_, subst}
+use mathlib.Core.Logic.{⊎-elim}
+use mathlib.Core.List.{List}
+use Prim.Native.Nat.{ℕ, _+_, _*_, _-_, _≤_}
+use native.Mathlib.Omega.{arith}
+use borrow.Author.Needs.{needs}
+use lib.ListN.{length}
+use lib.Ieee.{Float}
+use mir.Val.{SFits}
+use mir.Syntax.{w32}
+use Rattle.big_endian.proofs.BufferLaws.{length-at}
+use Rattle.conversion.specs.declared.Entry.{Entry}
+use Rattle.conversion.specs.declared.GdsRoundingPolicy.{GdsRoundingPolicy}
+use Rattle.conversion.specs.Fold.{run}
+use Rattle.conversion.specs.Points.{writePoint, writePoints}
+use Rattle.conversion.proofs.FoldLaws.{run-same}
+use Rattle.stream.specs.Records.{pointsBytes}
+use Rattle.forms.specs.Place.{pointAt, pointsFrom}
+use Rattle.writing.specs.Steps.{Succeeds}
+use Rattle.writing.proofs.StepLaws.{Outcome, stopped, putting, writes}
+use Rattle.points.proofs.ValueLaws.{point-recorded, point-plain}
+use Rattle.points.proofs.WalkLaws.{go-on, go-end, whole-first, put-turn, put-end, Turn, point-put, never-pointed, first-succeeds}
+use Rattle.points.proofs.put_converted.Statement.{statement}
+use Rattle.points.proofs.put_converted.Tie as tie
+
+-- what is left
+abbrev left : GdsRoundingPolicy → Float → List ℕ → ℕ → ℕ → ℕ → Entry → ℕ → List ℕ → Outcome
+left policy d b n i at e to out = run stopped e (writePoints policy d i (pointsFrom (n - i) b at)) (putting pointsBytes to out)
+
+record Inv (policy : GdsRoundingPolicy) (d : Float) (b : List ℕ) (from n : ℕ) (out₀ : List ℕ) (start : ℕ) (e₀ : Entry) (out : List ℕ) (i at to : ℕ) (e : Entry) : Type 0 where
+  within : i ≤ n
+  place : at ≡ from + 34 * i
+  count : to ≡ start + 8 * i
+  accepted : Succeeds (writePoints policy d i (pointsFrom (n - i) b at))
+  long : length out ≡ length out₀
+  small : e .count ≤ 16 + 2 * i
+  rest : run stopped e₀ (writePoints policy d 0 (pointsFrom n b from)) (putting pointsBytes start out₀) ≡ left policy d b n i at e to out
+
+abbrev Inv-loop : tie.InvT-loop
+Inv-loop policy d b from n out₀ start i₀ at₀ to₀ e₀ out i at to e = Inv policy d b from n out₀ start e₀ out i at to e
+
+abbrev μ-loop : tie.MeasureT-loop
+μ-loop policy d b from n out₀ start i₀ at₀ to₀ e₀ out i at to e = n - i
+
+none-yet : (n : ℕ) → n ≡ n - 0
+none-yet n = omega arith
+
+-- where the ways through the loop's body meet: the point converted and put
+met : (c : tie.At-match-came Inv-loop μ-loop) → Turn (c .before .before .before .before .before .loop .e) (writePoint (c .before .before .before .before .before .before .before .before .args .policy) (c .before .before .before .before .before .before .before .before .args .d) 0 (c .before .before .before .before .before .loop .i) (pointAt (c .before .before .before .before .before .before .before .before .args .b .now) (c .before .before .before .before .before .loop .at)))
+    (c .before .before .before .before .before .loop .to) (c .before .before .before .before .before .loop .out) (c .match .to) (c .match .out) (c .match .e)
+unfolding pointAt
+met c =
+    let a = c .before .before .before .before .before .before .before .before .args in
+    let l = c .before .before .before .before .before .loop in
+    let x = c .before .before .before .convert-at in
+    let y = c .before .before .convert-at2 in
+    let p = c .before .plain-point in
+    ⊎-elim
+    (λ w.
+    let g = w .1 .given in
+    let fx : SFits w32 (g .0 .0) = search needs in
+    let fy : SFits w32 (g .0 .1 .0) = search needs in
+    point-put (point-plain (a .policy) (a .d) (pointAt (a .b .now) (l .at)) (x .result) (y .result) (x .ensures) (y .ensures) 0 (l .i) (l .e) (g .0 .0) (g .0 .1 .0) (sym (g .1) ∙ p .ensures))
+    (g .0 .0) (g .0 .1 .0) (l .e) refl fx fy (w .4 .ensures) (w .7) (w .8) (w .9))
+    (λ w.
+    let r = w .2 in
+    let g = w .4 .given in
+    let fx : SFits w32 (g .0 .0) = search needs in
+    let fy : SFits w32 (g .0 .1 .0) = search needs in
+    point-put (point-recorded (a .policy) (a .d) (pointAt (a .b .now) (l .at)) (x .result) (y .result) (x .ensures) (y .ensures) 0 (l .i) (l .e) (r .result) (r .ensures))
+    (g .0 .0) (g .0 .1 .0) (g .0 .1 .1 .0) (g .1) fx fy (w .7 .ensures) (w .10) (w .11) (w .12))
+    (c .match .came)
+
+-- and a way that is never taken
+never : {X : Type 0} (c : tie.After-enum-told2 Inv-loop μ-loop) → X
+unfolding pointAt
+never c =
+    let a = c .before .before .before .before .before .before .before .before .before .before .before .before .args in
+    let l = c .before .before .before .before .before .before .before .before .before .loop in
+    let x = c .before .before .before .before .before .before .before .convert-at in
+    let y = c .before .before .before .before .before .before .convert-at2 in
+    let r = c .before .before .record-point in
+    never-pointed (first-succeeds (a .policy) (a .d) (a .n) (l .i) (a .b .now) (l .at) (c .before .before .before .before .before .before .before .before .loop-test .taken) (l .inv .accepted) .point)
+    (point-recorded (a .policy) (a .d) (pointAt (a .b .now) (l .at)) (x .result) (y .result) (x .ensures) (y .ensures) 0 (l .i) (l .e) (r .result) (r .ensures)) (c .enum-told2 .given .1)
+
+loop-holds : tie.Need-loop-holds Inv-loop μ-loop
+loop-holds c =
+    let s = c .before .before in
+    let a = s .args in
+    record {
+      within = search needs;
+      place = search needs;
+      count = search needs;
+      accepted = subst (λ (j : ℕ). Succeeds (writePoints (a .policy) (a .d) 0 (pointsFrom j (a .b .now) (a .from)))) (none-yet (a .n)) (s .pre .1 .1 .0);
+      long = refl;
+      small = search needs;
+      rest = whole-first stopped (a .policy) (a .d) (a .n) 0 (a .b .now) (a .from) (a .entry) (putting pointsBytes (a .start) (a .out .now));
+    }
+
+convert-at-requires : tie.Need-convert-at-requires Inv-loop μ-loop
+convert-at-requires c κs = search needs
+
+add-convert-at : tie.Need-add-convert-at Inv-loop μ-loop
+add-convert-at c = search needs
+
+convert-at-requires-2 : tie.Need-convert-at-requires-2 Inv-loop μ-loop
+convert-at-requires-2 c κs = search needs
+
+plain-point-requires : tie.Need-plain-point-requires Inv-loop μ-loop
+plain-point-requires c κs = search needs
+
+enum-known-x : tie.Need-enum-known-x Inv-loop μ-loop
+enum-known-x c = search needs
+
+put-point-requires : tie.Need-put-point-requires Inv-loop μ-loop
+put-point-requires c κs = search needs
+
+enum-told : tie.Need-enum-told Inv-loop μ-loop
+enum-told c = search needs
+
+cast-record-point : tie.Need-cast-record-point Inv-loop μ-loop
+cast-record-point c = search needs
+
+record-point-requires : tie.Need-record-point-requires Inv-loop μ-loop
+record-point-requires c κs = search needs
+
+enum-told-2 : tie.Need-enum-told-2 Inv-loop μ-loop
+enum-told-2 c = search needs
+
+same-length : tie.Need-same-length Inv-loop μ-loop
+same-length c = never c
+
+returns : tie.Need-returns Inv-loop μ-loop
+returns c = never c
+
+enum-known-x-2 : tie.Need-enum-known-x-2 Inv-loop μ-loop
+enum-known-x-2 c = search needs
+
+put-point-requires-2 : tie.Need-put-point-requires-2 Inv-loop μ-loop
+put-point-requires-2 c κs =
+    let l = c .before .before .before .before .before .before .before .before .before .before .before .loop in
+    let t = c .before .before .before .before .before .before .before .before .before .before .loop-test .taken in
+    let i = l .inv .count in
+    let j = l .inv .long in
+    let k = c .before .before .before .before .before .before .before .before .before .before .before .before .before .before .pre .1 .1 .1 .0 in
+    omega arith
+
+add-at : tie.Need-add-at Inv-loop μ-loop
+add-at c = search needs
+
+add-i : tie.Need-add-i Inv-loop μ-loop
+add-i c = search needs
+
+loop-less : tie.Need-loop-less Inv-loop μ-loop
+loop-less c = search needs
+
+loop-again : tie.Need-loop-again Inv-loop μ-loop
+loop-again c =
+    let a = c .before .before .before .before .before .before .before .before .args in
+    let l = c .before .before .before .before .before .loop in
+    let v = l .inv in
+    let m = c .match in
+    let t = met c in
+    let k : m .e .count ≤ l .e .count + 2 = t .converts .grown in
+    let w = t .wrote in
+    let j = w .count in
+    let h = c .before .before .before .before .loop-test .taken in
+    record {
+      within = search needs;
+      place = omega arith;
+      count = omega arith;
+      accepted = first-succeeds (a .policy) (a .d) (a .n) (l .i) (a .b .now) (l .at) h (v .accepted) .rest;
+      long = length-at w ∙ v .long;
+      small = omega arith;
+      rest = v .rest
+          ∙ go-on stopped (a .policy) (a .d) (a .n) (l .i) (a .b .now) (l .at) (l .e) (putting pointsBytes (l .to) (l .out)) h _ (t .converts) (t .x) (t .y) (m .e) refl
+          ∙ run-same stopped (m .e) (writePoints (a .policy) (a .d) (l .i + 1) (pointsFrom (a .n - (l .i + 1)) (a .b .now) (l .at + 34))) _ _ (put-turn (t .x) (t .y) w);
+    }
+
+same-length-2 : tie.Need-same-length-2 Inv-loop μ-loop
+same-length-2 c = search needs
+
+returns-2 : tie.Need-returns-2 Inv-loop μ-loop
+returns-2 c =
+    let a = c .before .before .before .before .args in
+    let l = c .before .loop in
+    let v = l .inv in
+    let i = v .within in
+    let j = v .count in
+    let room = c .before .before .before .before .pre .1 .1 .1 .0 in
+    writes pointsBytes (a .entry) (writePoints (a .policy) (a .d) 0 (pointsFrom (a .n) (a .b .now) (a .from))) (a .start) (a .out .now) (l .out) (l .to) (l .e)
+    (v .rest ∙ go-end stopped (a .policy) (a .d) (a .n) (l .i) (a .b .now) (l .at) (l .e) (putting pointsBytes (l .to) (l .out)) (c .loop-test .left) ∙ put-end (l .to) (l .out) (l .e)) (omega arith)
+
+pub put-converted-spec : {M : Type 1} → statement M
+put-converted-spec =
+    tie.close
+    (tie.spec
+    Inv-loop
+    μ-loop
+    loop-holds
+    convert-at-requires
+    add-convert-at
+    convert-at-requires-2
+    plain-point-requires
+    enum-known-x
+    put-point-requires
+    enum-told
+    cast-record-point
+    record-point-requires
+    enum-told-2
+    same-length
+    returns
+    enum-known-x-2
+    put-point-requires-2
+    add-at
+    add-i
+    loop-less
+    loop-again
+    same-length-2
+    returns-2)
