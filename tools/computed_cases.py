@@ -494,7 +494,7 @@ def open_module():
                 uses.append(f"use Rattle.{crate}.specs.{module} as {short}")
                 names += [f"{short}.{n}" for n in found]
     return ("-- Every definition of the specs, opened: under `unfolding opened` a test computes with them all. Made by tools/computed_cases.py. Assumes nothing.\n"
-            + "use lib.Ieee as Ieee\n" + "\n".join(uses) + "\n\nunfoldable pub opened : Unit {0}\nunfolding "
+            + "use mathlib.Core.Bool.{true}\nuse lib.Dec.{T}\nuse lib.Ieee as Ieee\n" + "\n".join(uses) + "\n\nunfoldable pub opened : T true\nunfolding "
             + " ".join(names + [f"Ieee.{n}" for n in IEEE]) + "\nopened = tt\n")
 
 

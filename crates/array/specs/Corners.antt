@@ -1,8 +1,10 @@
 -- What the code of an array's conversions answers (document 01, "Result two", second paragraph; `write_reference_cell` of write/mod.rs): the definition's steps
 -- run against the element's entry. Assumes nothing.
 use mathlib.Core.Path.{_≡_}
+use mathlib.Core.Bool.{true}
 use mathlib.Core.Option.{Option}
 use Prim.Native.Nat.{ℕ, _+_, _≤_}
+use lib.Dec.{T}
 use lib.IntN.{ℤ}
 use lib.Ieee.{Float}
 use Rattle.units.specs.declared.Unit as U
@@ -46,7 +48,7 @@ converted p q e = C.At (record { px = p .x; py = p .y; x = q .x; y = q .y }) e
 
 -- at most two deviations more
 abbrev pub Grown : ℕ → Converted → Type 0
-Grown n (C.Refused r) = Unit {0}
+Grown n (C.Refused r) = T true
 Grown n (C.At p e) = e .count ≤ n + 2
 
 -- the answer is the step's

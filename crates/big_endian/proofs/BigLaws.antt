@@ -1,12 +1,12 @@
 -- A number that fits its bytes is read back from them, at any width. Assumes nothing.
 use mathlib.Core.Path.{_≡_, refl, sym, ap, _∙_, subst}
-use mathlib.Core.List.{List, [], _∷_, _++_}
-use Prim.Native.Nat.{ℕ, zero, suc, _+_, _*_, _/_, _%_, _^_, _≤_, _<_}
+use mathlib.Core.List.{List, [], _∷_}
+use Prim.Native.Nat.{ℕ, zero, suc, _+_, _*_, _/_, _%_, _^_, _<_}
 use native.Mathlib.Nat.{one-le-pow, pow-succ', mod-eq-of-lt, mod-lt, mul-assoc, add-mul, add-assoc}
 use native.Mathlib.Omega.{arith}
 use lib.Dec.{lit<}
 use lib.Arith.{mod-mul}
-use lib.ListN.{length, getD}
+use lib.ListN.{length}
 use Rattle.big_endian.specs.Big.{Bytes, below, number, bytesOf}
 
 -- as many bytes as were asked for

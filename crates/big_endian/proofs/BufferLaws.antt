@@ -11,10 +11,6 @@ use Rattle.big_endian.specs.Buffer.{over, splice, Wrote, WroteAt}
 
 -- ---- the buffer keeps its length
 
-pub length-over : (bs d : List ℕ) → length bs ≤ length d → length (over bs d) ≡ length d
-unfolding over
-length-over bs d h = simp (length-append, length-drop) (omega arith)
-
 pub length-splice : (at : ℕ) (bs d : List ℕ) → at + length bs ≤ length d → length (splice at bs d) ≡ length d
 unfolding splice
 length-splice at bs d h = simp (length-append, length-take, length-drop) (omega arith)
@@ -58,9 +54,6 @@ then-at {b1} {b2} {d} {cur} {last} {at} {r1} {r2} u v =
 pub length-at : {bs d after : List ℕ} {at r : ℕ} → WroteAt bs d after at r → length after ≡ length d
 length-at {bs} {d} {after} {at} w = ap length (w .out) ∙ length-splice at bs d (w .fits)
 
-pub room-at : {bs d after : List ℕ} {at r : ℕ} → WroteAt bs d after at r → (n : ℕ) → at + length bs + n ≤ length d → r + n ≤ length after
-room-at {bs} {d} {after} {at} w n h = let l = length-at w in let c = w .count in omega arith
-
 -- ---- for a loop that writes in turns: what is still to be written stands at the place reached
 
 pub at-turn : {e d d′ : List ℕ} {at r : ℕ} → WroteAt e d d′ at r → (rest : List ℕ) → splice at (e ++ rest) d ≡ splice r rest d′
@@ -82,12 +75,6 @@ from-zero {bs} {d} {after} {r} w =
     let n = w .count in
     let f = w .fits in
     record { count = omega arith; fits = omega arith; out = w .out ∙ sym (at-start bs d) }
-
-pub to-zero : {bs d after : List ℕ} {r : ℕ} → Wrote bs d after r → WroteAt bs d after 0 r
-to-zero {bs} {d} {after} {r} w =
-    let n = w .count in
-    let f = w .fits in
-    record { count = omega arith; fits = omega arith; out = w .out ∙ at-start bs d }
 
 -- the part of d from `at` on came back as `last`: seen from the whole
 part-splice : (at : ℕ) (bs d last : List ℕ) → at + length bs ≤ length d
@@ -125,11 +112,6 @@ nothing-at d at h = record { count = omega arith; fits = omega arith; out = sym 
 pub copied : {b d after : List ℕ} → length b ≤ length d → after ≡ take (length b) b ++ drop (length b) d → Wrote b d after (length b)
 unfolding over
 copied {b} {d} h e = record { count = refl; fits = h; out = e ∙ ap (λ (l : List ℕ). l ++ drop (length b) d) (take-length b) }
-
--- a buffer that is filled whole
-pub filled : {bs d after : List ℕ} {r : ℕ} → Wrote bs d after r → length d ≡ length bs → after ≡ bs
-unfolding over
-filled {bs} {d} w e = w .out ∙ ap (λ (l : List ℕ). bs ++ l) (drop-of-length-le d {i = length bs} (omega arith)) ∙ append-nil bs
 
 -- ---- the same bytes in other words
 

@@ -11,7 +11,7 @@ use native.Mathlib.Omega.{arith}
 use lib.Dec.{T, isLe, isEq, eqb, ltb, leb→le, nleb→lt, eqb→eq, eqb-refl, ltb→lt}
 use lib.Arith.{lt-of-le-ne}
 use lib.Pow.{pow-add, pow-pos, pow-mono}
-use lib.Ieee.{Float, inf, fin, Format, prec, low, size, nearest, odd, units, round}
+use lib.Ieee.{Float, inf, Format, prec, low, size, nearest, odd, units, round}
 use lib.Ieee.Digits.{size-reaches}
 use lib.Ieee.Fits.{round-is, two, two-le-pos}
 use lib.Ieee.Exact.{HasValue, units-val}

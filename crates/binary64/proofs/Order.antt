@@ -38,7 +38,7 @@ both-orders (negsuc m) (negsuc n) h k = ap negsuc (le-antisymm (leb→le m n (k 
 abbrev pub Below : Bool → ℕ → Bool → ℕ → Type 0
 Below false m false n = m ≤ n
 Below false m true n = (m ≤ 0) × (n ≤ 0)
-Below true m false n = Unit {0}
+Below true m false n = T true
 Below true m true n = n ≤ m
 
 pub signed→below : (s t : Bool) (m n : ℕ) → signed s m ≤ℤ signed t n → Below s m t n

@@ -5,7 +5,7 @@ use Prim.Native.Nat.{ℕ, zero, suc, _+_, _-_, _*_, _≤_, _<_}
 use native.Mathlib.Nat.{mul-zero, zero-mul}
 use native.Mathlib.Omega.{arith}
 use lib.Dec.{T, ltb, ltb→lt, nltb→le}
-use lib.IntN.{ℤ, pos, negsuc, negℤ, natAbs, negℤ-negℤ, negℤ-+ℤ, *ℤ-zero, *ℤ-negsuc, _+ℤ_, _*ℤ_}
+use lib.IntN.{pos, negsuc, negℤ, natAbs, negℤ-negℤ, negℤ-+ℤ, *ℤ-zero, *ℤ-negsuc, _+ℤ_, _*ℤ_}
 use lib.Ieee.{Float, unlike}
 use Rattle.binary64.specs.Value.{sizeOf, negative, signed, scaled}
 

@@ -1,6 +1,5 @@
 -- An answer is known by its values. Assumes nothing.
 use mathlib.Core.Path.{_≡_, refl, ap, ap₂}
-use Prim.Native.Nat.{ℕ}
 use native.Mathlib.Omega.{arith}
 use Rattle.refusal.proofs.NumberLaws.{number-above, number-once}
 use Rattle.cell.specs.declared.Answer.{Answer}

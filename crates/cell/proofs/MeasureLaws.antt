@@ -1,15 +1,13 @@
 -- Measuring and writing agree. And the records of what is written have lengths that their heads can say. Assumes nothing.
 use mathlib.Core.Path.{_≡_, ap, _∙_, subst}
 use mathlib.Core.List.{List}
-use Prim.Native.Nat.{ℕ, _*_, _≤_, _<_}
+use Prim.Native.Nat.{ℕ, _*_}
 use native.Mathlib.Omega.{arith}
 use borrow.Author.Tests.{le-leb, lt-leb}
 use lib.Dec.{T, leb}
 use lib.ListN.{length}
 use lib.Ieee.{Float, binary64, fits}
 use Rattle.big_endian.specs.Big.{Bytes}
-use Rattle.refusal.specs.declared.Refusal.{Refusal}
-use Rattle.refusal.specs.declared.Refusal.the-variants as R
 use Rattle.parsing.specs.All.{All}
 use Rattle.binary64.specs.Value.{zero64}
 use Rattle.conversion.specs.declared.Entry.{Entry}
@@ -19,7 +17,6 @@ use Rattle.stream.specs.Records.{structureRecords}
 use Rattle.stream.proofs.RecordLaws.{Length}
 use Rattle.stream.proofs.BytesLaws.{lengths}
 use Rattle.stream.proofs.BackLaws.{record-lengths, structure-length}
-use Rattle.cell.specs.declared.Answer.{Answer}
 use Rattle.cell.specs.declared.Answer.the-variants as A
 use Rattle.cell.specs.Cell.{Result, stopped, written, cellStructure, structureBytes, entryLength, fitting, writeCell}
 use Rattle.cell.specs.Answer.{answerOf}

@@ -1,5 +1,6 @@
 -- Points that are conversions of their physical values stand in order on each axis (monotone's `keeps-order`). Assumes nothing.
 use mathlib.Core.Path.{_≡_, refl, ap, subst}
+use mathlib.Core.Bool.{true}
 use mathlib.Core.Option.{Option, none, some}
 use mathlib.Core.List.{List, _++_}
 use Prim.Native.Nat.{suc}
@@ -27,7 +28,7 @@ each-length (more r h) = ap suc (each-length h)
 module _ (policy : GdsRoundingPolicy) (d : Float) where
   -- q is the database value of p, where there is a p
   abbrev pub TakenBy : Option Float → ℤ → Type 0
-  TakenBy none q = Unit {0}
+  TakenBy none q = T true
   TakenBy (some p) q = T (fits binary64 p) × (databaseValue policy d p ≡ pure q)
 
   pub record TakenPoint (e : Point (Option Float)) (w : Point ℤ) : Type 0 where

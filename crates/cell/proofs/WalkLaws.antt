@@ -1,36 +1,19 @@
 -- The walk over the blocks, from its front: what was gathered so far, and what the blocks that are left give. For a loop over the blocks. Assumes nothing.
-use mathlib.Core.Path.{_≡_, refl, sym, ap, ap₂, _∙_}
+use mathlib.Core.Path.{_≡_, ap, _∙_}
 use mathlib.Core.Option.{Option, none, some}
-use mathlib.Core.List.{List, [], _∷_, _++_, append-assoc}
+use mathlib.Core.List.{List, [], _∷_}
 use Prim.Native.Nat.{ℕ, suc}
 use lib.Ieee.{Float}
 use Rattle.refusal.specs.declared.Refusal.{Refusal}
 use Rattle.refusal.specs.declared.Refusal.the-variants as R
 use Rattle.conversion.specs.declared.GdsRoundingPolicy.{GdsRoundingPolicy}
-use Rattle.conversion.specs.declared.Entry.{Entry}
 use Rattle.conversion.specs.declared.Deviation.{Deviation}
 use Rattle.conversion.specs.Entry.{entryOf}
 use Rattle.conversion.specs.Made.{Made, refused, made}
 use Rattle.sheet.specs.Element.{Element, kindOf, elementOf}
 use Rattle.stream.specs.Structure.{Said}
 use Rattle.cell.specs.Write.{writeElement}
-use Rattle.cell.specs.Cell.{Result, stopped, written, inFront, writeOne, writeBlock, writeBlocks}
-
--- what was gathered so far in front of the rest
-unfoldable pub joined : List Said → List Entry → Result (List Said) → Result (List Said)
-joined ws es (stopped r k) = stopped r k
-joined ws es (written vs fs) = written (ws ++ vs) (es ++ fs)
-
-pub joined-nothing : (x : Result (List Said)) → joined [] [] x ≡ x
-unfolding joined
-joined-nothing (stopped r k) = refl
-joined-nothing (written ws es) = refl
-
-pub joined-front : (ws : List Said) (es : List Entry) (w : Said) (fs : List Entry) (x : Result (List Said))
-    → joined ws es (inFront w fs x) ≡ joined (ws ++ w ∷ []) (es ++ fs) x
-unfolding joined
-joined-front ws es w fs (stopped r k) = refl
-joined-front ws es w fs (written vs gs) = ap₂ written (sym (append-assoc ws (w ∷ []) vs)) (sym (append-assoc es fs gs))
+use Rattle.cell.specs.Cell.{stopped, inFront, writeOne, writeBlock, writeBlocks}
 
 -- one block more: its element is ill-formed, refused, or written
 module _ (policy : GdsRoundingPolicy) (d : Float) (i : ℕ) (b : List ℕ) (bs : List (List ℕ)) where

@@ -1,5 +1,5 @@
 -- What an accepted array is: its origin and steps are conversions of their physical values, so every instance is close to its own, and its endpoints are in range. Assumes nothing.
-use mathlib.Core.Path.{_≡_, refl, sym, ap₂, _∙_, subst}
+use mathlib.Core.Path.{_≡_, sym, ap₂, _∙_, subst}
 use mathlib.Core.Option.{Option, none, some}
 use Prim.Native.Nat.{ℕ, _+_, _*_}
 use lib.Dec.{T}
@@ -13,11 +13,11 @@ use Rattle.units.specs.Physical.{physical}
 use Rattle.units.specs.Point.{Point, endpoint}
 use Rattle.conversion.specs.declared.GdsRoundingPolicy.{GdsRoundingPolicy}
 use Rattle.conversion.specs.Field.{originField, columnSpacingField, rowSpacingField, columnEndpointField, rowEndpointField, xAxis, yAxis}
-use Rattle.conversion.specs.Convert.{inRange, physicalValue, convertPhysical, arrayEndpoint}
+use Rattle.conversion.specs.Convert.{inRange}
 use Rattle.conversion.specs.Points.{spot}
 use Rattle.conversion.specs.Array.{physicalPoint, physicalSpacing, physicalAt, spacingAt, turned, endpointPhysical, ArrayPoints, writePhysical, writeEndpoint, convertArray}
 use Rattle.conversion.specs.Close.{allowance, Close}
-use Rattle.conversion.proofs.MadeLaws.{Yields, made-yields, Steps, steps, then-steps}
+use Rattle.conversion.proofs.MadeLaws.{Yields, made-yields, steps, then-steps}
 use Rattle.conversion.proofs.ConvertLaws.{Converted, physical-converted, physical-fits, physical-value-is, endpoint-in-range}
 use Rattle.conversion.proofs.Instances.{close-sum}
 

@@ -1,5 +1,5 @@
 -- The database value of a scaled value, by its sign, digits and power. Assumes nothing.
-use mathlib.Core.Path.{_≡_, refl, sym, ap, _∙_, subst}
+use mathlib.Core.Path.{_≡_, refl, sym, ap, _∙_}
 use mathlib.Core.Bool.{Bool, true, false, not, cond}
 use Prim.Native.Nat.{ℕ, zero, suc, _+_, _-_, _*_, _/_, _^_, _≤_, _<_}
 use native.Mathlib.Nat.{le-trans, le-of-eq, lt-of-lt-of-le, mul-one, mul-le-mul-left}
@@ -23,7 +23,7 @@ use Rattle.binary64.proofs.StepLaws.{step-self}
 use Rattle.refusal.specs.declared.Refusal.the-variants as R
 use Rattle.conversion.specs.declared.GdsRoundingPolicy.{GdsRoundingPolicy}
 use Rattle.conversion.specs.declared.GdsRoundingPolicy.the-variants.{Nearest, Floor, Ceil, ErrorIfOffGrid}
-use Rattle.conversion.specs.Made.{Made, refused, pure, need, _>>=_, _>>_}
+use Rattle.conversion.specs.Made.{Made, refused, pure, _>>=_, _>>_}
 use Rattle.conversion.specs.Convert.{onGrid, rounded, inRange, ranged, gridValue}
 use Rattle.conversion.proofs.MadeLaws.{need-on, need-off, pure-then, refused-then}
 

@@ -1,9 +1,9 @@
 -- The bound of an array's instances: the errors of the origin and of the steps add up. Assumes nothing.
-use mathlib.Core.Path.{_≡_, refl, sym, ap, ap₂, _∙_, subst}
+use mathlib.Core.Path.{_≡_, sym, ap, ap₂, _∙_, subst}
 use Prim.Native.Nat.{ℕ, zero, suc, _+_, _-_, _*_, _^_, _≤_}
-use native.Mathlib.Nat.{le-refl, le-trans, le-of-eq, zero-mul, suc-mul, mul-le-mul-left, mul-le-mul-right, add-mul, one-mul, mul-assoc}
+use native.Mathlib.Nat.{le-refl, le-trans, le-of-eq, zero-mul, suc-mul, mul-le-mul-left}
 use native.Mathlib.Omega.{arith}
-use lib.IntN.{ℤ, pos, negsuc, negℤ, natAbs, sucℤ, predℤ, _+ℤ_, _-ℤ_, _*ℤ_, +ℤ-idl, +ℤ-idr, +ℤ-assoc, +ℤ-comm, +ℤ-sucℤ, +ℤ-predℤ, +ℤ-invr, negℤ-+ℤ, zero-*ℤ, sucℤ-*ℤ, predℤ-*ℤ}
+use lib.IntN.{ℤ, pos, negsuc, negℤ, natAbs, predℤ, _+ℤ_, _-ℤ_, _*ℤ_, +ℤ-idr, +ℤ-assoc, +ℤ-comm, +ℤ-sucℤ, +ℤ-predℤ, negℤ-+ℤ, zero-*ℤ, sucℤ-*ℤ, predℤ-*ℤ}
 use lib.Ieee.{Float}
 use Rattle.binary64.specs.Value.{scaled}
 use Rattle.conversion.specs.Close.{Close}

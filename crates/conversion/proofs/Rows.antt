@@ -16,10 +16,9 @@ use Rattle.refusal.specs.Number.{number}
 use Rattle.units.specs.declared.Unit.{Unit}
 use Rattle.units.specs.declared.Unit.the-variants as U
 use Rattle.units.specs.Physical as Physical
-use Rattle.units.specs.Point.{Point, endpoint}
+use Rattle.units.specs.Point.{endpoint}
 use Rattle.conversion.specs.declared.GdsRoundingPolicy.{GdsRoundingPolicy}
 use Rattle.conversion.specs.declared.GdsRoundingPolicy.the-variants.{Nearest, Floor, Ceil, ErrorIfOffGrid}
-use Rattle.conversion.specs.declared.Deviation.{Deviation}
 use Rattle.conversion.specs.declared.Entry.{Entry}
 use Rattle.conversion.specs.Entry.{entryOf}
 use Rattle.conversion.specs.Entry as Entries

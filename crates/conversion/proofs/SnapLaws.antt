@@ -1,6 +1,6 @@
 -- One step between two doubles of one sign, by their bits but the sign. Assumes nothing.
 use mathlib.Core.Path.{_≡_, refl, sym, ap, ap₂, _∙_, subst}
-use mathlib.Core.Bool.{Bool, true, false, not, _&&_, cond, true≢false}
+use mathlib.Core.Bool.{Bool, true, false, not, _&&_, true≢false}
 use Prim.Native.Nat.{ℕ, zero, suc, _+_, _-_, _*_, _/_, _%_, _^_, _≤_, _<_}
 use native.Mathlib.Nat.{le-trans, le-of-eq, lt-of-lt-of-le, lt-of-le-of-lt, mul-one, mod-eq-of-lt}
 use native.Mathlib.Omega.{arith}
@@ -19,7 +19,7 @@ use Rattle.binary64.specs.Step.{orderedBits, ordered, oneStep}
 use Rattle.binary64.proofs.ValueLaws.{sign-of-value}
 use Rattle.binary64.proofs.WholeLaws.{nearest-small}
 use Rattle.binary64.proofs.NearestLaws.{double-minus, double-plus}
-use Rattle.binary64.proofs.StepLaws.{Beside, within-one}
+use Rattle.binary64.proofs.StepLaws.{within-one}
 use Rattle.conversion.specs.Convert.{abs}
 
 -- the bits of x but the sign

@@ -3,6 +3,7 @@
 -- Steps are put together by `do`, as `?` puts them together in write/mod.rs. Assumes nothing.
 use mathlib.Core.Bool.{Bool, true, false}
 use mathlib.Core.List.{List, [], _++_}
+use lib.Dec.{T}
 use Rattle.refusal.specs.declared.Refusal.{Refusal}
 use Rattle.conversion.specs.declared.Deviation.{Deviation}
 
@@ -30,7 +31,7 @@ _>>_ m n = m >>= λ _. n
 
 -- the value of a step that only checks
 abbrev pub Done : Type 0
-Done = Unit {0}
+Done = T true
 
 -- a check: the refusal where the test fails
 unfoldable pub need : Bool → Refusal → Made Done

@@ -1,8 +1,10 @@
 -- One block of the sheet measured and written, by the definition of writing an element (cell/specs/Write). Assumes nothing.
 use mathlib.Core.Path.{_≡_}
+use mathlib.Core.Bool.{true}
 use mathlib.Core.Option.{Option, none, some}
 use mathlib.Core.List.{List, []}
 use Prim.Native.Nat.{ℕ, _+_, _*_, _≤_}
+use lib.Dec.{T}
 use lib.ListN.{length}
 use lib.Ieee.{Float}
 use Rattle.refusal.specs.declared.Refusal.the-variants as R
@@ -48,7 +50,7 @@ measuredBlock policy d i (some e) = run M.Refused (blankEntry i (kindOf (e .body
 
 -- what is measured is short: the lengths of a sheet's blocks have a sum that a word holds
 abbrev pub Short : ℕ → Measured → Type 0
-Short n (M.Refused r) = Unit {0}
+Short n (M.Refused r) = T true
 Short n (M.Through length e) = length ≤ 84 + 4 * n
 
 -- no check refuses the block's element, and n bytes hold its own

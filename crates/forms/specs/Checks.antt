@@ -1,9 +1,10 @@
 -- What the checks of a form promise. A form is held to what stands in the block: it gives exactly that, or is ill-formed. Assumes nothing.
 use mathlib.Core.Path.{_≡_}
-use mathlib.Core.Bool.{Bool, cond}
+use mathlib.Core.Bool.{Bool, true, cond}
 use mathlib.Core.Option.{Option, none, some}
 use mathlib.Core.List.{List}
 use Prim.Native.Nat.{ℕ, _≤_}
+use lib.Dec.{T}
 use lib.ListN.{length, drop}
 use Rattle.units.specs.declared.Unit as Coordinate
 use Rattle.parsing.specs.Parse.{Part, ill, part, IllFormed, illFormed, present, whole, _>>=_}
@@ -35,7 +36,7 @@ propertiesFormAt b P.Ill = none
 propertiesFormAt b (P.Properties q) = some (propertiesAt b q)
 
 abbrev pub PropertiesFormIn : List ℕ → PropertiesForm → Type 0
-PropertiesFormIn b P.Ill = Unit {0}
+PropertiesFormIn b P.Ill = T true
 PropertiesFormIn b (P.Properties q) = PropertiesIn b q
 
 pub record PropertiesRead (b : List ℕ) (at : ℕ) (r : PropertiesForm) : Type 0 where
@@ -53,7 +54,7 @@ pub record BodyEnds (b : List ℕ) (s : BodyPlaces) (end : ℕ) : Type 0 where
   pub end-in : end ≤ length b
 
 abbrev pub BodyFormIn : List ℕ → BodyForm → Type 0
-BodyFormIn b F.Ill = Unit {0}
+BodyFormIn b F.Ill = T true
 BodyFormIn b (F.Body s end) = BodyEnds b s end
 
 pub record BodyRead (k : ℕ) (b : List ℕ) (r : BodyForm) : Type 0 where
@@ -63,7 +64,7 @@ pub record BodyRead (k : ℕ) (b : List ℕ) (r : BodyForm) : Type 0 where
 -- ---- whole blocks
 
 abbrev pub HeadFormIn : List ℕ → HeadForm → Type 0
-HeadFormIn b H.Ill = Unit {0}
+HeadFormIn b H.Ill = T true
 HeadFormIn b (H.Head s) = HeadIn b s
 
 pub record HeadRead (b : List ℕ) (r : HeadForm) : Type 0 where
@@ -71,7 +72,7 @@ pub record HeadRead (b : List ℕ) (r : HeadForm) : Type 0 where
   pub places : HeadFormIn b r
 
 abbrev pub ElementFormIn : List ℕ → ElementForm → Type 0
-ElementFormIn b E.Ill = Unit {0}
+ElementFormIn b E.Ill = T true
 ElementFormIn b (E.Element s q) = ElementIn b s q
 
 pub record ElementRead (b : List ℕ) (r : ElementForm) : Type 0 where

@@ -1,9 +1,10 @@
 -- The steps of a path before its points: its checks and its three lengths (document 01, "Who can cause which refusal", 8 and 9, and "Result two";
 -- `write_path_with_converter` of write/mod.rs), and what the code answers of them. Assumes nothing.
 use mathlib.Core.Path.{_≡_}
-use mathlib.Core.Bool.{Bool}
+use mathlib.Core.Bool.{Bool, true}
 use mathlib.Core.Option.{Option}
 use Prim.Native.Nat.{ℕ, _+_, _≤_}
+use lib.Dec.{T}
 use lib.ListN.{length}
 use lib.IntN.{ℤ}
 use lib.Ieee.{Float}
@@ -63,7 +64,7 @@ extentOf (F.At wide width begun begin ended end e) = ready (extent wide width be
 
 -- A length is there if it is on the sheet, and brings at most one deviation more.
 abbrev pub LengthFits : Bool → ℕ → Length → Type 0
-LengthFits on n (L.Refused r) = Unit {0}
+LengthFits on n (L.Refused r) = T true
 LengthFits on n (L.At there value e) = (there ≡ on) × (e .count ≤ n + 1)
 
 pub record GivesLength (on : Bool) (e : Entry) (m : Made (Option ℤ)) (r : Length) : Type 0 where
@@ -78,7 +79,7 @@ pub record Fits (p : S.Path) (n : ℕ) (wide begun ended : Bool) (e : Entry) : T
   pub grown : e .count ≤ n + 3
 
 abbrev pub ExtentFits : S.Path → ℕ → Lengths → Type 0
-ExtentFits p n (F.Refused r) = Unit {0}
+ExtentFits p n (F.Refused r) = T true
 ExtentFits p n (F.At wide width begun begin ended end e) = Fits p n wide begun ended e
 
 pub record GivesExtent (p : S.Path) (e : Entry) (m : Made Extent) (r : Lengths) : Type 0 where

@@ -1,8 +1,10 @@
 -- Points whose coordinates are integers in the database unit: "An integer whose unit equals d passes unchanged" (document 01, "Result two"). Assumes nothing.
 use mathlib.Core.Path.{_≡_}
+use mathlib.Core.Bool.{true}
 use mathlib.Core.Option.{some}
 use mathlib.Core.List.{List}
 use Prim.Native.Nat.{ℕ, zero, suc, _+_}
+use lib.Dec.{T}
 use lib.IntN.{ℤ}
 use lib.Ieee.{Float}
 use mir.Val.{toZ}
@@ -29,5 +31,5 @@ Passes d b at = passed d (unitAt b at) ≡ some (integerAt b at)
 
 -- both coordinates of each of n points pass
 abbrev pub AllPass : Float → List ℕ → ℕ → ℕ → Type 0
-AllPass d b zero at = Unit {0}
+AllPass d b zero at = T true
 AllPass d b (suc n) at = Passes d b at × Passes d b (at + 17) × AllPass d b n (at + 34)

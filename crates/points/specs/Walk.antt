@@ -1,8 +1,10 @@
 -- What the code answers for values and points of the grid: the definition's steps run against the element's entry (document 01, "Result two" and "Result three";
 -- `write_points_to_file` of write/mod.rs). Assumes nothing.
 use mathlib.Core.Path.{_≡_}
+use mathlib.Core.Bool.{true}
 use mathlib.Core.List.{List, [], _∷_}
 use Prim.Native.Nat.{ℕ, _+_, _≤_}
+use lib.Dec.{T}
 use lib.IntN.{ℤ, pos}
 use Rattle.units.specs.Point.{Point}
 use Rattle.conversion.specs.declared.Conversion.{Conversion}
@@ -30,7 +32,7 @@ valued q e = G.At q e
 
 -- at most one deviation more
 abbrev pub ValueGrown : ℕ → Valued → Type 0
-ValueGrown n (G.Refused r) = Unit {0}
+ValueGrown n (G.Refused r) = T true
 ValueGrown n (G.At q e) = e .count ≤ n + 1
 
 -- the answer is the step's
@@ -45,7 +47,7 @@ pointed q e = P.At (q .x) (q .y) e
 
 -- at most two deviations more
 abbrev pub PointGrown : ℕ → Pointed → Type 0
-PointGrown n (P.Refused r) = Unit {0}
+PointGrown n (P.Refused r) = T true
 PointGrown n (P.At x y e) = e .count ≤ n + 2
 
 pub record Converts (e : Entry) (m : Made (Point ℤ)) (r : Pointed) : Type 0 where

@@ -1,5 +1,5 @@
 -- The bytes of an element's properties and its ENDEL (document 01, "Then PROPATTR and PROPVALUE per property, ENDEL"), and their length by the block alone. Assumes nothing.
-use mathlib.Core.List.{List, [], _∷_, _++_}
+use mathlib.Core.List.{List, [], _++_}
 use Prim.Native.Nat.{ℕ, zero, suc, _+_, _%_}
 use Rattle.big_endian.specs.Big.{numberAt}
 use Rattle.sheet.specs.Element as S

@@ -1,11 +1,9 @@
 // Records into the lent output (write/mod.rs: `record_header`, `write_i32_record`, `write_string_with_record_to_file`).
 // Each writer puts one record at a place and answers the place after it; every other byte stays.
-ghost use mathlib.Core.Path.{_≡_};
 ghost use mathlib.Core.Bool.{cond};
 ghost use Prim.Native.Nat.{_+_, _%_, _≤_};
 ghost use lib.ListN.{length};
 ghost use Rattle.big_endian.specs.Big.{bytesOf};
-ghost use Rattle.big_endian.specs.Buffer.{WroteAt};
 ghost use Rattle.stream.specs.Records.{emptyRecord, wordRecord, longRecord, realRecord, stringRecord, colrowRecord};
 ghost use Rattle.stream.specs.Strings.{padded};
 ghost use Rattle.records.specs.Bytes.{headBytes, sized, Placed, Recorded, optBytes, optionOf};

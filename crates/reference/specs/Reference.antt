@@ -1,11 +1,11 @@
 -- What the code of a reference answers, and the bytes of its records with their length by the sheet alone (document 01, "1 × 1 reference: SREF, SNAME, transform, XY.
 -- Else AREF, SNAME, transform, COLROW, XY of three points."). Assumes nothing.
 use mathlib.Core.Path.{_≡_}
-use mathlib.Core.Bool.{Bool, not, _&&_, _||_, cond}
+use mathlib.Core.Bool.{Bool, true, not, _&&_, _||_, cond}
 use mathlib.Core.Option.{Option}
 use mathlib.Core.List.{List, []}
 use Prim.Native.Nat.{ℕ, _+_, _%_, _≤_}
-use lib.Dec.{leb, eqb}
+use lib.Dec.{T, leb, eqb}
 use lib.ListN.{length}
 use lib.IntN.{ℤ}
 use lib.Ieee.{Float}
@@ -86,7 +86,7 @@ pub record Bounded (b : List ℕ) (s : ReferencePlaces) : Type 0 where
   pub rows : s .rows ≤ maxColRow
 
 abbrev pub BoundedBy : List ℕ → ReferencePlaces → Check → Type 0
-BoundedBy b s (C.Refused x) = Unit {0}
+BoundedBy b s (C.Refused x) = T true
 BoundedBy b s C.Passed = Bounded b s
 
 -- the answer is the checks'
@@ -146,7 +146,7 @@ pub record Fits (b : List ℕ) (s : ReferencePlaces) (t : Strans) (rest : ℕ) :
 
 -- and an array's endpoints are those of its steps
 abbrev pub Fine : List ℕ → ReferencePlaces → ReferenceValues → Type 0
-Fine b s (N.Refused x) = Unit {0}
+Fine b s (N.Refused x) = T true
 Fine b s (N.Single t x y e) = Fits b s t singleRest
 Fine b s (N.Array t c e) = Fits b s t arrayRest × (c ≡ cornersFor (s .columns) (s .rows) (stepsOf c))
 

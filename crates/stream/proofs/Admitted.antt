@@ -1,8 +1,10 @@
 -- What a reader's limits admit: every record of a structure, each at its place, and its arrays' steps. Assumes nothing.
 use mathlib.Core.Path.{_≡_, refl}
+use mathlib.Core.Bool.{true}
 use mathlib.Core.Option.{none}
 use mathlib.Core.List.{List, [], _∷_}
 use Prim.Native.Nat.{ℕ, suc}
+use lib.Dec.{T}
 use lib.ListN.{drop}
 use lib.IntN.{ℤ}
 use Rattle.units.specs.Point.{Point}
@@ -27,11 +29,11 @@ pub record AdmittedPoint (limits : Limits) (p : Point ℤ) : Type 0 where
 
 -- an array's steps
 abbrev pub AdmittedSteps : Limits → SaidBody → Type 0
-AdmittedSteps limits (S.boundary e) = Unit {0}
-AdmittedSteps limits (S.path e) = Unit {0}
-AdmittedSteps limits (S.text e) = Unit {0}
-AdmittedSteps limits (S.node e) = Unit {0}
-AdmittedSteps limits (S.sref e) = Unit {0}
+AdmittedSteps limits (S.boundary e) = T true
+AdmittedSteps limits (S.path e) = T true
+AdmittedSteps limits (S.text e) = T true
+AdmittedSteps limits (S.node e) = T true
+AdmittedSteps limits (S.sref e) = T true
 AdmittedSteps limits (S.aref e) = AdmittedPoint limits (e .columnStep) × AdmittedPoint limits (e .rowStep)
 
 -- properties after i others, and ENDEL

@@ -1,9 +1,11 @@
 -- What a reader with limits accepts, the grammar alone reads alike. Assumes nothing.
 use mathlib.Core.Path.{_≡_, ap, subst}
+use mathlib.Core.Bool.{true}
 use mathlib.Core.Option.{Option, none, some}
 use mathlib.Core.List.{List, [], append-nil}
 use Prim.Native.Nat.{ℕ}
 use native.Mathlib.Omega.{arith}
+use lib.Dec.{T}
 use Rattle.refusal.specs.declared.Refusal.{Refusal}
 use Rattle.parsing.specs.Parse.{Part, given, accepted}
 use Rattle.stream.specs.Record.{Rec, runOf}
@@ -13,7 +15,7 @@ use Rattle.stream.proofs.BesideLaws.{Beside, excused, fault, value, Sid
 
 -- every refusal is excused
 abbrev Any : Fault → Type 0
-Any c = Unit {0}
+Any c = T true
 
 free : (o : Option Refusal) → Looser Any o none
 free none = alike

@@ -4,6 +4,7 @@ use mathlib.Core.Bool.{Bool, true, false}
 use mathlib.Core.Option.{Option, none, some}
 use mathlib.Core.List.{List, _++_}
 use Prim.Native.Nat.{ℕ, _+_, _*_, _≤_}
+use lib.Dec.{T}
 use lib.ListN.{length}
 use lib.Ieee.{Float}
 use Rattle.refusal.specs.declared.Refusal.the-variants as R
@@ -48,7 +49,7 @@ headMeasured (some h) = byStamps (stampsFit (h .stamps))
 
 -- a name has at most 32 bytes: sums with it fit
 abbrev pub HeadSmall : HeadMeasured → Type 0
-HeadSmall (H.Refused r) = Unit {0}
+HeadSmall (H.Refused r) = T true
 HeadSmall (H.Through length) = length ≤ 64
 
 -- ---- blocks in turn
@@ -60,7 +61,7 @@ totalsFrom n k g (written ws es) = T.Through (n + length (elementsBytes ws)) (k 
 
 -- at most 16,384 blocks, of which none is longer than the longest sheet: sums with it fit
 abbrev pub TotalsSmall : Totals → Type 0
-TotalsSmall (T.Refused r b) = Unit {0}
+TotalsSmall (T.Refused r b) = T true
 TotalsSmall (T.Through length entries greatest) = length ≤ maxPairs * (84 + 4 * maxSheetLength)
 
 -- no check refuses an element, and there is room for what is written: the elements' bytes from a place of the output on, and the entries

@@ -1,11 +1,9 @@
 -- `conversion::checked_array_endpoint` meets its contract: the sum and the product fit 64 bits, so that they are those of the whole numbers. Assumes nothing.
-use mathlib.Core.Path.{_≡_, refl, sym, ap, ap₂, _∙_, subst}
+use mathlib.Core.Path.{_≡_, sym, ap, ap₂, _∙_, subst}
 use mir.Val.{SFits, toZ, ofZ}
 use mir.Syntax.{w32, w64}
 use mir.ValLaws.{toZ-ofZ}
 use mathlib.Core.Bool.{true}
-use Prim.Native.Nat.{ℕ, _≤_}
-use native.Mathlib.Omega.{arith}
 use lib.IntN.{ℤ, pos, _+ℤ_, _*ℤ_}
 use lib.Ieee.Scale.{finite}
 use mir.ValLaws.{toZ-pos}

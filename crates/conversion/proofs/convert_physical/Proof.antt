@@ -4,8 +4,8 @@ use mathlib.Core.Bool.{true}
 use lib.Dec.{T}
 use lib.Ieee.{binary64, div}
 use lib.Ieee.Scale.{finite}
-use mir.Val.{SFits, toZ, ofZ}
-use mir.Syntax.{w32, w64}
+use mir.Val.{SFits}
+use mir.Syntax.{w32}
 use mir.ValLaws.{toZ-ofZ}
 use lib.IntN.{ℤ}
 use Rattle.conversion.specs.Made.{made}

@@ -1,5 +1,5 @@
 -- `conversion::database_value` meets its contract: where p is not finite the quotient is not either. Assumes nothing.
-use mathlib.Core.Path.{_≡_, refl, sym, ap, _∙_, subst}
+use mathlib.Core.Path.{_≡_, sym, _∙_, subst}
 use mathlib.Core.Bool.{true}
 use lib.Dec.{T}
 use lib.Ieee.{binary64, div}

@@ -1,7 +1,6 @@
 -- `conversion::difference` meets its contract: it is the definition, with q as the machine reads it. Assumes nothing.
-use mathlib.Core.Path.{_≡_, refl, sym, ap, _∙_, subst}
-use mir.Val.{SFits, toZ, ofZ}
-use mir.Syntax.{w32, w64}
+use mathlib.Core.Path.{ap}
+use mir.Syntax.{w32}
 use mir.ValLaws.{toZ-ofZ}
 use lib.IntN.{ℤ}
 use lib.Ieee.{binary64, sub, mul, ofInt}

@@ -1,5 +1,5 @@
 -- `conversion::on_grid` meets its contract: of two doubles of one sign the bits but the sign are compared. Assumes nothing.
-use mathlib.Core.Path.{_≡_, refl, sym, ap, _∙_, subst}
+use mathlib.Core.Path.{sym, _∙_, subst}
 use Prim.Native.Nat.{_^_}
 use native.Mathlib.Nat.{le-of-lt}
 use lib.Dec.{T}

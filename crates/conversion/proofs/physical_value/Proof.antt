@@ -1,5 +1,5 @@
 -- `conversion::physical_value` meets its contract. Assumes nothing.
-use mathlib.Core.Path.{_≡_, refl, sym, ap, _∙_, subst}
+use mathlib.Core.Path.{_≡_, sym, ap, _∙_}
 use mathlib.Core.Bool.{true}
 use lib.Ieee.Positive.{positive}
 use Rattle.units.specs.Physical.{unitsOf}

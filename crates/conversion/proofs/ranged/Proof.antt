@@ -1,6 +1,4 @@
 -- `conversion::ranged` meets its contract, by the two ends of the range. Assumes nothing.
-use mathlib.Core.Path.{_≡_, refl, sym, ap, _∙_, subst}
-use mir.Val.{SFits, toZ, ofZ}
 use mir.Syntax.{w32, w64}
 use mir.ValLaws.{toZ-ofZ}
 use Rattle.conversion.proofs.GridLaws.{within-fits, ranged-within, ranged-under, ranged-over}

@@ -1,7 +1,6 @@
 -- `conversion::turned` meets its contract. Assumes nothing.
-use mathlib.Core.Path.{_≡_, refl, sym, ap, ap₂, _∙_, subst}
+use mathlib.Core.Path.{ap₂}
 use lib.Ieee.{Float}
-use Rattle.units.specs.Point.{Point}
 use Rattle.conversion.specs.Array.{turned}
 use borrow.Author.Needs.{needs}
 use Rattle.conversion.proofs.turned.Statement.{statement}

@@ -1,7 +1,7 @@
 -- `is_datetime` meets its contract. Assumes nothing.
 use Rattle.cell.specs.Stamps.{isDate}
 use borrow.Author.Tests.{le-leb, lt-leb}
-use mathlib.Core.Path.{_≡_, sym, _∙_}
+use mathlib.Core.Path.{sym, _∙_}
 use Rattle.validation.proofs.StampLaws.{was-true, was-false}
 use borrow.Author.Needs.{needs}
 use Rattle.validation.proofs.is_datetime.Statement.{statement}

@@ -1,7 +1,7 @@
 -- `name_byte` meets its contract. Assumes nothing.
 use Rattle.cell.specs.Names.{nameByte}
 use borrow.Author.Tests.{ne-eqb}
-use mathlib.Core.Path.{_≡_, sym, _∙_}
+use mathlib.Core.Path.{sym, _∙_}
 use borrow.Author.Needs.{needs}
 use Rattle.validation.proofs.name_byte.Statement.{statement}
 use Rattle.validation.proofs.name_byte.Tie as tie

@@ -1,7 +1,7 @@
 -- `Entry::put` meets its contract: its first 13 bytes, and then three numbers. Assumes nothing.
-use mathlib.Core.Path.{_≡_, refl, sym, ap, _∙_, subst}
-use mir.Val.{SFits, toZ, ofZ}
-use mir.Syntax.{w32, w64}
+use mathlib.Core.Path.{ap}
+use mir.Val.{SFits, ofZ}
+use mir.Syntax.{w32}
 use mir.ValLaws.{toZ-ofZ}
 use lib.IntN.{ℤ}
 use Rattle.big_endian.specs.Big.{bytesOf}
