@@ -486,12 +486,13 @@ IEEE = "ofBits toBits mul div sub neg lt le eq ofInt round sum add size".split()
 def open_module():
     uses, names = [], []
     for crate in BELOW:
-        for path in sorted(glob.glob(f"crates/{crate}/specs/*.antt")):
+        for path in sorted(glob.glob(f"crates/{crate}/specs/*.antt") + glob.glob(f"crates/{crate}/specs/code/*.antt"), key=os.path.basename):
             module = os.path.basename(path)[:-5]
+            within = "code." if os.path.dirname(path).endswith("code") else ""
             found = re.findall(r"^\s*unfoldable pub (\S+)", open(path).read(), re.M)
             if found:
                 short = "".join(w.title() for w in crate.split("_")) + "·" + module
-                uses.append(f"use Rattle.{crate}.specs.{module} as {short}")
+                uses.append(f"use Rattle.{crate}.specs.{within}{module} as {short}")
                 names += [f"{short}.{n}" for n in found]
     return ("-- Every definition of the specs, opened: under `unfolding opened` a test computes with them all. Made by tools/computed_cases.py. Assumes nothing.\n"
             + "use mathlib.Core.Bool.{true}\nuse lib.Dec.{T}\nuse lib.Ieee as Ieee\n" + "\n".join(uses) + "\n\nunfoldable pub opened : T true\nunfolding "
