@@ -31,11 +31,11 @@ use Rattle.conversion.proofs.MadeLaws.{refused-on, pure-on}
 use Rattle.sheet.specs.Form.{absentKind}
 use Rattle.forms.specs.Place.{pointAt, spacingAt}
 use Rattle.writing.proofs.StepLaws.{run-through}
-use Rattle.points.specs.declared.Valued.{Valued}
-use Rattle.points.specs.declared.Valued.the-variants as G
-use Rattle.points.specs.declared.Pointed.the-variants as P
-use Rattle.points.specs.Walk.{valued, ValueGrown, Values, pointed}
-use Rattle.points.proofs.ValueLaws.{value-stops, value-goes-on}
+use Rattle.coordinate.specs.declared.Valued.{Valued}
+use Rattle.coordinate.specs.declared.Valued.the-variants as G
+use Rattle.coordinate.specs.declared.Pointed.the-variants as P
+use Rattle.coordinate.specs.Coordinate.{valued, ValueGrown, Values, pointed}
+use Rattle.coordinate.proofs.ValueLaws.{value-stops, value-goes-on}
 use Rattle.array.specs.declared.Converted.the-variants as C
 use Rattle.array.specs.Corners.{converted, Converts, endOf, Ends}
 

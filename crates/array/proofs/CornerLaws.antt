@@ -20,9 +20,9 @@ use Rattle.conversion.specs.Fold.{notedAll, run}
 use Rattle.conversion.specs.Made.{Made, Done, refused, made, pure, _>>=_, _>>_}
 use Rattle.conversion.proofs.FoldLaws.{run-bind, run-then, run-pure}
 use Rattle.writing.proofs.StepLaws.{run-through}
-use Rattle.points.specs.declared.Pointed.{Pointed}
-use Rattle.points.specs.declared.Pointed.the-variants as P
-use Rattle.points.specs.Walk.{pointed, PointGrown}
+use Rattle.coordinate.specs.declared.Pointed.{Pointed}
+use Rattle.coordinate.specs.declared.Pointed.the-variants as P
+use Rattle.coordinate.specs.Coordinate.{pointed, PointGrown}
 use Rattle.array.specs.declared.Physical.{Physical}
 use Rattle.array.specs.declared.Physical.the-variants as F
 use Rattle.array.specs.declared.ArrayPoint.{ArrayPoint}

@@ -16,9 +16,9 @@ use Rattle.conversion.specs.Answer.{pointOf}
 use Rattle.conversion.specs.Array.{ArrayPoints, physicalSpacing, turned, writePhysical, writeEndpoint}
 use Rattle.conversion.specs.Field.{columnSpacingField, rowSpacingField, columnEndpointField, rowEndpointField}
 use Rattle.conversion.specs.Fold.{run}
-use Rattle.points.specs.declared.Pointed.{Pointed}
-use Rattle.points.specs.declared.Pointed.the-variants as P
-use Rattle.points.specs.Walk.{pointed, PointGrown}
+use Rattle.coordinate.specs.declared.Pointed.{Pointed}
+use Rattle.coordinate.specs.declared.Pointed.the-variants as P
+use Rattle.coordinate.specs.Coordinate.{pointed, PointGrown}
 use Rattle.array.specs.declared.Physical.{Physical}
 use Rattle.array.specs.declared.Physical.the-variants as F
 use Rattle.array.specs.declared.ArrayPoint.{ArrayPoint}

@@ -14,13 +14,10 @@ use conversion::Entry;
 use conversion::GdsRoundingPolicy;
 use conversion::PhysicalPoint;
 use conversion::PhysicalValue;
+use coordinate::Pointed;
+use coordinate::Valued;
 use forms::ReferencePlaces;
-use points::Pointed;
-use points::Valued;
 use refusal::Refusal;
-
-// The bytes of a coordinate on the sheet.
-const COORDINATE: usize = 17;
 
 // The physical values of a point, or why there are none.
 pub enum Physical {
@@ -70,7 +67,7 @@ fn physical_point(b: &[u8], at: usize) -> Physical
     match conversion::physical_value(forms::unit_at(b, at)) {
         PhysicalValue::Refused { refusal } => Physical::Refused { refusal },
         PhysicalValue::At { value: x } => {
-            match conversion::physical_value(forms::unit_at(b, at + COORDINATE)) {
+            match conversion::physical_value(forms::unit_at(b, at + forms::COORDINATE)) {
                 PhysicalValue::Refused { refusal: refusal2 } => Physical::Refused {
                     refusal: refusal2,
                 },
@@ -109,11 +106,11 @@ fn convert_physical_point(
     ensures { λ r. ⌜ Converts entry (pointOf p) (writePhysical policy d field (pointOf p)) r ⌝ }
 {
     let a = conversion::convert_physical(policy, d, p.x);
-    match points::record_quantization(a, field, conversion::X_AXIS, 0, entry) {
+    match coordinate::record_quantization(a, field, conversion::X_AXIS, 0, entry) {
         Valued::Refused { refusal } => Converted::Refused { refusal },
         Valued::At { value: x, entry: e } => {
             let b = conversion::convert_physical(policy, d, p.y);
-            match points::record_quantization(b, field, conversion::Y_AXIS, 0, e) {
+            match coordinate::record_quantization(b, field, conversion::Y_AXIS, 0, e) {
                 Valued::Refused { refusal: refusal2 } => Converted::Refused { refusal: refusal2 },
                 Valued::At {
                     value: y,
@@ -146,12 +143,12 @@ fn convert_endpoint(
 {
     let p = conversion::endpoint_physical(step.px, n, origin.px);
     let a = conversion::checked_array_endpoint(d, origin.x, step.x, n, p);
-    match points::record_quantization(a, field, conversion::X_AXIS, 0, entry) {
+    match coordinate::record_quantization(a, field, conversion::X_AXIS, 0, entry) {
         Valued::Refused { refusal } => Pointed::Refused { refusal },
         Valued::At { value: x, entry: e } => {
             let q = conversion::endpoint_physical(step.py, n, origin.py);
             let b = conversion::checked_array_endpoint(d, origin.y, step.y, n, q);
-            match points::record_quantization(b, field, conversion::Y_AXIS, 0, e) {
+            match coordinate::record_quantization(b, field, conversion::Y_AXIS, 0, e) {
                 Valued::Refused { refusal: refusal2 } => Pointed::Refused { refusal: refusal2 },
                 Valued::At {
                     value: y,

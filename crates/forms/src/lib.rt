@@ -13,7 +13,7 @@ ghost use Rattle.forms.specs.Forms.{pathTypeOf, referencePlaces};
 ghost use Rattle.forms.specs.Checks.{given, Checked, PropertiesRead, BodyRead, HeadRead, ElementRead};
 
 // The kind byte of a coordinate.
-const INTEGER: u8 = 0;
+pub const INTEGER: u8 = 0;
 
 const DOUBLE: u8 = 1;
 
@@ -22,15 +22,15 @@ const ABSENT: u8 = 2;
 // After a coordinate's kind: its 8 value bytes and its unit.
 const VALUE: usize = 1;
 
-const UNIT: usize = 9;
+pub const UNIT: usize = 9;
 
 // "four zeros, then a signed 32-bit value": an integer's value bytes are below this.
 const INTEGERS: u64 = 0x1_0000_0000;
 
 // The bytes of a coordinate, and of a point, which is two.
-const COORDINATE: usize = 17;
+pub const COORDINATE: usize = 17;
 
-const POINT: usize = 34;
+pub const POINT: usize = 34;
 
 // The bytes of a string's length, of a property's attribute and of a count.
 const NUMBER: usize = 2;

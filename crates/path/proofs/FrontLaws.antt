@@ -35,10 +35,10 @@ use Rattle.writing.proofs.ReadyLaws.{ready-stops, ready-goes-on, succeeds-as, n
 use Rattle.cell.specs.Limits.{within, minPathPoints, maxPoints, maxLayer, maxDataType}
 use Rattle.cell.specs.Write.{isSome, layerAndType, writePath}
 use Rattle.forms.specs.Place.{unitAt, coordinateAt}
-use Rattle.points.specs.declared.Valued.{Valued}
-use Rattle.points.specs.declared.Valued.the-variants as G
-use Rattle.points.specs.Walk.{ValueGrown, Values}
-use Rattle.points.proofs.ValueLaws.{value-stops, value-goes-on}
+use Rattle.coordinate.specs.declared.Valued.{Valued}
+use Rattle.coordinate.specs.declared.Valued.the-variants as G
+use Rattle.coordinate.specs.Coordinate.{ValueGrown, Values}
+use Rattle.coordinate.proofs.ValueLaws.{value-stops, value-goes-on}
 use Rattle.path.specs.declared.Length.{Length}
 use Rattle.path.specs.declared.Length.the-variants as L
 use Rattle.path.specs.declared.Lengths.{Lengths}

@@ -15,8 +15,8 @@ ghost use Rattle.path.specs.Front.{extent, writeExtent, writeFront, Give
 ghost use Rattle.path.specs.Length.{pathBytes, extentRecords, pathHead, extentLength, headLength, HeadSize, pathLength};
 use conversion::Entry;
 use conversion::GdsRoundingPolicy;
+use coordinate::Valued;
 use forms::PathPlaces;
-use points::Valued;
 use points::Walked;
 use refusal::Refusal;
 use writing::Measured;
@@ -96,7 +96,7 @@ fn convert_length(
             entry,
         };
     }
-    match points::convert_coordinate(policy, d, b, at, field, conversion::NO_AXIS, 0, entry) {
+    match coordinate::convert_coordinate(policy, d, b, at, field, conversion::NO_AXIS, 0, entry) {
         Valued::Refused { refusal } => Length::Refused { refusal },
         Valued::At { value, entry: e } => Length::At {
             there: true,

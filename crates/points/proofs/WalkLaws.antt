@@ -13,7 +13,7 @@ use Rattle.refusal.specs.declared.Refusal.{Refusal}
 use Rattle.units.specs.declared.Unit.{Unit}
 use Rattle.units.specs.Point.{Point}
 use Rattle.big_endian.specs.Buffer.{WroteAt}
-use Rattle.big_endian.proofs.BufferLaws.{at-turn, at-end, same-bytes}
+use Rattle.big_endian.proofs.BufferLaws.{at-turn, at-end}
 use Rattle.conversion.specs.declared.Deviation.{Deviation}
 use Rattle.conversion.specs.declared.Entry.{Entry}
 use Rattle.conversion.specs.declared.GdsRoundingPolicy.{GdsRoundingPolicy}
@@ -26,9 +26,10 @@ use Rattle.stream.specs.Records.{longBytes, pointsBytes}
 use Rattle.writing.specs.Steps.{Succeeds}
 use Rattle.writing.proofs.StepLaws.{run-through, yields, succeeds, written, putting}
 use Rattle.forms.specs.Place.{valuesFrom, pointAt, pointsFrom}
-use Rattle.points.specs.declared.Pointed.{Pointed}
-use Rattle.points.specs.declared.Pointed.the-variants as P
-use Rattle.points.specs.Walk.{pointed, Converts}
+use Rattle.coordinate.specs.declared.Pointed.{Pointed}
+use Rattle.coordinate.specs.declared.Pointed.the-variants as P
+use Rattle.coordinate.specs.Coordinate.{pointed, Converts}
+use Rattle.coordinate.proofs.ValueLaws.{same-point}
 
 -- a point by its bits, as code has it between two calls
 abbrev pub pointOf : ℕ → ℕ → Point ℤ
@@ -157,7 +158,7 @@ pub point-put : {e : Entry} {m : Made (Point ℤ)} {r : Pointed} → Converts e 
 point-put {e} {m} {r} c x y e1 g f h {to} {to1} {to′} {out} {out1} {out′} {e′} w i j k =
     let q : r ≡ P.At x y e′ = cc in
     let bs = longBytes x ++ longBytes y in
-    let v : WroteAt bs out out1 to to1 = same-bytes (ap₂ (λ (u v : ℤ). longBytes u ++ longBytes v) (toZ-ofZ w32 x f) (toZ-ofZ w32 y h)) w in
+    let v : WroteAt bs out out1 to to1 = same-point (toZ-ofZ w32 x f) (toZ-ofZ w32 y h) w in
     record { x = x; y = y; converts = subst (Converts e m) q c; wrote = subst (λ (o : List ℕ). WroteAt bs out o to to′) (sym i) (subst (λ (t : ℕ). WroteAt bs out out1 to t) (sym j) v) }
 
 -- ---- points that succeed: no point is refused

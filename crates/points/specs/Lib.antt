@@ -1,3 +1,3 @@
--- What the code answers for values and points of the grid, and which points pass unchanged.
+-- What the code answers for points in turn, and which points pass unchanged.
 pub mod Walk
 pub mod Integers

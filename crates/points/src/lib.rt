@@ -1,58 +1,31 @@
-// Values and points of the sheet to the grid, with the element's report entry, and points into the lent output (`write_points_to_file` of write/mod.rs).
+// Lists of points of the sheet: measured with the element's report entry, and written into the lent output (`write_points_to_file` of write/mod.rs).
 ghost use mathlib.Core.Path.{_≡_};
 ghost use mathlib.Core.Bool.{true};
-ghost use mathlib.Core.List.{_++_};
-ghost use Prim.Native.Nat.{_+_, _-_, _*_, _≤_, _<_};
+ghost use Prim.Native.Nat.{_+_, _-_, _*_, _≤_};
 ghost use lib.ListN.{length};
 ghost use Rattle.big_endian.specs.Big.{numberAt};
 ghost use Rattle.big_endian.specs.Buffer.{WroteAt};
 ghost use Rattle.sheet.specs.Form.{integerKind};
-ghost use Rattle.conversion.specs.Answer.{outcome};
-ghost use Rattle.conversion.specs.Convert.{Spot, convertUnit};
 ghost use Rattle.conversion.specs.Fold.{run};
-ghost use Rattle.conversion.specs.Points.{spot, writePoint, writePoints};
-ghost use Rattle.stream.specs.Records.{longBytes, pointsBytes};
+ghost use Rattle.conversion.specs.Points.{writePoints};
+ghost use Rattle.stream.specs.Records.{pointsBytes};
 ghost use Rattle.writing.specs.Steps.{Succeeds, Writes};
-ghost use Rattle.forms.specs.Place.{unitAt, pointAt, pointsFrom};
+ghost use Rattle.forms.specs.Place.{pointsFrom};
 ghost use Rattle.points.specs.declared.Walked.the-variants as W;
 ghost use Rattle.points.specs.Integers.{integerAt, integersFrom, AllPass};
-ghost use Rattle.points.specs.Walk.{Values, Converts, both, plainOf, through, walked};
-use conversion::Conversion;
-use conversion::Deviation;
+ghost use Rattle.points.specs.Walk.{through, walked};
 use conversion::Entry;
 use conversion::GdsRoundingPolicy;
+use conversion::POINT_FIELD;
+use coordinate::Plain;
+use coordinate::Pointed;
+use forms::COORDINATE;
+use forms::POINT;
 use refusal::Refusal;
 use writing::Written;
 
-// The bytes of a coordinate and of a point on the sheet.
-const COORDINATE: usize = 17;
-
-const POINT: usize = 34;
-
-// In a coordinate: the kind byte of an integer, and the places of the unit and of an integer's value.
-const INTEGER: u8 = 0;
-
-const UNIT: usize = 9;
-
+// In an integer coordinate, the place of its value.
 const INTEGER_VALUE: usize = 5;
-
-// A value of the grid, with the element's entry after it.
-pub enum Valued {
-    Refused { refusal: Refusal },
-    At { value: i32, entry: Entry },
-}
-
-// Two values of the grid, where no deviation counts.
-enum Plain {
-    No,
-    At { x: i32, y: i32 },
-}
-
-// A point of the grid, with the entry after it.
-pub enum Pointed {
-    Refused { refusal: Refusal },
-    At { x: i32, y: i32, entry: Entry },
-}
 
 // The first and the last of the points, with the entry after all.
 pub enum Walked {
@@ -68,110 +41,6 @@ pub enum Walked {
     },
 }
 
-// A conversion's answer, in its place: the entry is touched only where a deviation counts.
-pub fn record_quantization(c: Conversion, field: u8, axis: u8, place: u16, entry: Entry) -> Valued
-    requires { ⌜ entry .count < 4294967295 ⌝ }
-    ensures { λ r. ⌜ Values entry (outcome (spot field axis place) c) r ⌝ }
-{
-    match c {
-        Conversion::Refused { refusal } => Valued::Refused { refusal },
-        Conversion::Converted { value } => Valued::At { value, entry },
-        Conversion::Quantized {
-            value: database,
-            physical,
-            error,
-        } => Valued::At {
-            value: database,
-            entry: entry.note(Deviation {
-                field,
-                axis,
-                place,
-                physical,
-                database,
-                error,
-            }),
-        },
-    }
-}
-
-// The coordinate at a place of the block, to the grid.
-fn convert_at(policy: GdsRoundingPolicy, d: f64, b: &[u8], at: usize) -> Conversion
-    requires { ⌜ at + 17 ≤ length (now b) ⌝ }
-    ensures { λ r. ⌜ ((s : Spot) → outcome s r ≡ convertUnit policy d s (unitAt (now (b .entry)) at)) ⌝ }
-{
-    conversion::convert_unit(policy, d, forms::unit_at(b, at))
-}
-
-// The same, in its place.
-pub fn convert_coordinate(
-    policy: GdsRoundingPolicy,
-    d: f64,
-    b: &[u8],
-    at: usize,
-    field: u8,
-    axis: u8,
-    place: u16,
-    entry: Entry,
-) -> Valued
-    requires { ⌜ at + 17 ≤ length (now b) ⌝ }
-    requires { ⌜ entry .count < 4294967295 ⌝ }
-    ensures { λ r. ⌜ Values entry (convertUnit policy d (spot field axis place) (unitAt (now (b .entry)) at)) r ⌝ }
-{
-    let c = convert_at(policy, d, b, at);
-    record_quantization(c, field, axis, place, entry)
-}
-
-// Both coordinates of a point, in their places, x before y.
-fn record_point(cx: Conversion, cy: Conversion, field: u8, place: u16, entry: Entry) -> Pointed
-    requires { ⌜ entry .count < 4294967294 ⌝ }
-    ensures { λ r. ⌜ Converts entry (both field place cx cy) r ⌝ }
-{
-    match record_quantization(cx, field, conversion::X_AXIS, place, entry) {
-        Valued::Refused { refusal } => Pointed::Refused { refusal },
-        Valued::At { value: x, entry: e } => {
-            match record_quantization(cy, field, conversion::Y_AXIS, place, e) {
-                Valued::Refused { refusal: refusal2 } => Pointed::Refused { refusal: refusal2 },
-                Valued::At {
-                    value: y,
-                    entry: more,
-                } => Pointed::At { x, y, entry: more },
-            }
-        }
-    }
-}
-
-// Whether neither is refused nor has a deviation that counts: then the entry stays as it is.
-fn plain_point(cx: Conversion, cy: Conversion) -> Plain
-    ensures { λ r. ⌜ r ≡ plainOf cx cy ⌝ }
-{
-    let Conversion::Converted { value: x } = cx else {
-        return Plain::No;
-    };
-    let Conversion::Converted { value: y } = cy else {
-        return Plain::No;
-    };
-    Plain::At { x, y }
-}
-
-// The point at a place of the block.
-pub fn convert_point(
-    policy: GdsRoundingPolicy,
-    d: f64,
-    b: &[u8],
-    at: usize,
-    field: u8,
-    place: u16,
-    entry: Entry,
-) -> Pointed
-    requires { ⌜ at + 34 ≤ length (now b) ⌝ }
-    requires { ⌜ entry .count < 4294967294 ⌝ }
-    ensures { λ r. ⌜ Converts entry (writePoint policy d field place (pointAt (now (b .entry)) at)) r ⌝ }
-{
-    let cx = convert_at(policy, d, b, at);
-    let cy = convert_at(policy, d, b, at + COORDINATE);
-    record_point(cx, cy, field, place, entry)
-}
-
 // ---- integers in the database unit, which pass unchanged: a clean layout's lists have nothing else, so that they are told apart once
 
 // Whether the coordinate at a place is an integer whose unit has these bits.
@@ -179,8 +48,8 @@ fn in_unit(b: &[u8], at: usize, bits: u64) -> bool
     requires { ⌜ at + 17 ≤ length (now b) ⌝ }
     ensures { λ r. ⌜ (r ≡ true → (numberAt 1 (now (b .entry)) at ≡ integerKind) × (numberAt 8 (now (b .entry)) (at + 9) ≡ bits)) ⌝ }
 {
-    if big_endian::u8_at(b, at) == INTEGER {
-        return big_endian::u64_at(b, at + UNIT) == bits;
+    if big_endian::u8_at(b, at) == forms::INTEGER {
+        return big_endian::u64_at(b, at + forms::UNIT) == bits;
     }
     false
 }
@@ -243,7 +112,7 @@ fn put_integers(b: &[u8], from: usize, n: usize, out: &mut [u8], start: usize) -
     let mut at = from;
     let mut to = start;
     while i < n {
-        to = put_point(out, to, integer_at(b, at), integer_at(b, at + COORDINATE));
+        to = coordinate::put_point(out, to, integer_at(b, at), integer_at(b, at + COORDINATE));
         at = at + POINT;
         i = i + 1;
     }
@@ -275,14 +144,14 @@ fn measure_rest(
     let mut y1 = y0;
     let mut e = entry;
     while i < n {
-        let cx = convert_at(policy, d, b, at);
-        let cy = convert_at(policy, d, b, at + COORDINATE);
-        match plain_point(cx, cy) {
+        let cx = coordinate::convert_at(policy, d, b, at);
+        let cy = coordinate::convert_at(policy, d, b, at + COORDINATE);
+        match coordinate::plain_point(cx, cy) {
             Plain::At { x, y } => {
                 x1 = x;
                 y1 = y;
             }
-            Plain::No => match record_point(cx, cy, conversion::POINT_FIELD, i as u16, e) {
+            Plain::No => match coordinate::record_point(cx, cy, POINT_FIELD, i as u16, e) {
                 Pointed::Refused { refusal } => {
                     return Walked::Refused { refusal };
                 }
@@ -323,22 +192,13 @@ pub fn measure_points(
     if all_pass(d, b, from, n) {
         return integer_ends(b, from, n, entry);
     }
-    match convert_point(policy, d, b, from, conversion::POINT_FIELD, 0, entry) {
+    match coordinate::convert_point(policy, d, b, from, POINT_FIELD, 0, entry) {
         Pointed::Refused { refusal } => Walked::Refused { refusal },
         Pointed::At { x, y, entry: e } => measure_rest(policy, d, b, from + POINT, n, x, y, e),
     }
 }
 
 // ---- written
-
-// A point's eight bytes.
-pub fn put_point(out: &mut [u8], at: usize, x: i32, y: i32) -> usize
-    requires { ⌜ at + 8 ≤ length (now out) ⌝ }
-    ensures { λ r. ⌜ WroteAt (longBytes x ++ longBytes y) (now (out .entry)) (now (out .exit)) at r ⌝ }
-{
-    let a = big_endian::put_i32_at(out, at, x);
-    big_endian::put_i32_at(out, a, y)
-}
 
 // All points in turn, converted.
 fn put_converted(
@@ -363,19 +223,19 @@ fn put_converted(
     let mut to = start;
     let mut e = entry;
     while i < n {
-        let cx = convert_at(policy, d, b, at);
-        let cy = convert_at(policy, d, b, at + COORDINATE);
-        match plain_point(cx, cy) {
+        let cx = coordinate::convert_at(policy, d, b, at);
+        let cy = coordinate::convert_at(policy, d, b, at + COORDINATE);
+        match coordinate::plain_point(cx, cy) {
             Plain::At { x, y } => {
-                to = put_point(out, to, x, y);
+                to = coordinate::put_point(out, to, x, y);
             }
-            Plain::No => match record_point(cx, cy, conversion::POINT_FIELD, i as u16, e) {
+            Plain::No => match coordinate::record_point(cx, cy, POINT_FIELD, i as u16, e) {
                 Pointed::Refused { refusal: _ } => {
                     // Never: no point is refused.
                     return Written { to, entry: e };
                 }
                 Pointed::At { x, y, entry: more } => {
-                    to = put_point(out, to, x, y);
+                    to = coordinate::put_point(out, to, x, y);
                     e = more;
                 }
             },

@@ -34,10 +34,7 @@ use Rattle.array.specs.declared.Corners.{Corners}
 use Rattle.array.specs.Corners.{cornersFor, stepsOf}
 use Rattle.reference.specs.Reference.{referenceBytes, sizeOf, singleRest, arrayRest, isSingle, referenceLength, srefOf, arefOf}
 
--- ---- three points. z and w are what the machine reads back of x and y.
-
-pub same-point : {x y z w : ℤ} {d cur : List ℕ} {at to : ℕ} → z ≡ x → w ≡ y → WroteAt (longBytes z ++ longBytes w) d cur at to → WroteAt (longBytes x ++ longBytes y) d cur at to
-same-point i j v = same-bytes (ap₂ (λ (x y : ℤ). longBytes x ++ longBytes y) i j) v
+-- ---- three points
 
 abbrev pub threePoints : Corners → List (Point ℤ)
 threePoints c = record { x = c .x0; y = c .y0 } ∷ record { x = c .x1; y = c .y1 } ∷ record { x = c .x2; y = c .y2 } ∷ []

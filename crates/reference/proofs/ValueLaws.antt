@@ -34,9 +34,9 @@ use Rattle.writing.specs.Ready.{Ready, stopped, ready}
 use Rattle.writing.specs.Steps.{Succeeds}
 use Rattle.writing.proofs.StepLaws.{run-through}
 use Rattle.writing.proofs.ReadyLaws.{never-stopped}
-use Rattle.points.specs.declared.Pointed.{Pointed}
-use Rattle.points.specs.declared.Pointed.the-variants as P
-use Rattle.points.specs.Walk.{pointed, Converts}
+use Rattle.coordinate.specs.declared.Pointed.{Pointed}
+use Rattle.coordinate.specs.declared.Pointed.the-variants as P
+use Rattle.coordinate.specs.Coordinate.{pointed, Converts}
 use Rattle.array.specs.declared.Array.{Array}
 use Rattle.array.specs.declared.Array.the-variants as A
 use Rattle.array.specs.declared.Corners.{Corners}

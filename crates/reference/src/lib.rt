@@ -19,8 +19,8 @@ use array::Array;
 use array::Corners;
 use conversion::Entry;
 use conversion::GdsRoundingPolicy;
+use coordinate::Pointed;
 use forms::ReferencePlaces;
-use points::Pointed;
 use refusal::Refusal;
 use transform::Strans;
 use transform::Transform;
@@ -168,7 +168,15 @@ fn place_reference(
     ensures { λ r. ⌜ Values (now (b .entry)) s entry (afterTransform policy d (referenceAt (now (b .entry)) s) (saidOf strans)) r ⌝ }
 {
     if is_single(s) {
-        match points::convert_point(policy, d, b, s.origin, conversion::ORIGIN_FIELD, 0, entry) {
+        match coordinate::convert_point(
+            policy,
+            d,
+            b,
+            s.origin,
+            conversion::ORIGIN_FIELD,
+            0,
+            entry,
+        ) {
             Pointed::Refused { refusal } => ReferenceValues::Refused { refusal },
             Pointed::At { x, y, entry: e } => ReferenceValues::Single {
                 strans,
@@ -280,9 +288,9 @@ fn put_corners_at(out: &mut [u8], at: usize, c: Corners) -> usize
     ensures { λ r. ⌜ Recorded (xyRecord (record { x = c .x0; y = c .y0 } ∷ record { x = c .x1; y = c .y1 } ∷ record { x = c .x2; y = c .y2 } ∷ [])) 28 (now (out .entry)) (now (out .exit)) at r ⌝ }
 {
     let a = records::put_head_at(out, at, 28, records::XY, records::FOUR_BYTE);
-    let a0 = points::put_point(out, a, c.x0, c.y0);
-    let a1 = points::put_point(out, a0, c.x1, c.y1);
-    points::put_point(out, a1, c.x2, c.y2)
+    let a0 = coordinate::put_point(out, a, c.x0, c.y0);
+    let a1 = coordinate::put_point(out, a0, c.x1, c.y1);
+    coordinate::put_point(out, a1, c.x2, c.y2)
 }
 
 // SREF, SNAME, the transform and XY, at a place.
@@ -303,7 +311,7 @@ fn put_sref_at(
     let a = records::put_empty_at(out, at, records::SREF);
     let a2 = records::put_string_at(out, a, records::SNAME, forms::string_at(b, s.name));
     let a3 = transform::put_strans_at(out, a2, strans);
-    transform::put_origin_at(out, a3, x, y)
+    coordinate::put_xy_at(out, a3, x, y)
 }
 
 // AREF, SNAME, the transform, COLROW and XY, at a place.

@@ -34,9 +34,9 @@ use Rattle.forms.specs.declared.TextPlaces.{TextPlaces}
 use Rattle.forms.specs.Place.{stringAt, stringEnd}
 use Rattle.forms.specs.Forms.{textAt}
 use Rattle.forms.proofs.StringLaws.{length-string}
-use Rattle.points.specs.declared.Pointed.{Pointed}
-use Rattle.points.specs.declared.Pointed.the-variants as P
-use Rattle.points.specs.Walk.{pointed, Converts}
+use Rattle.coordinate.specs.declared.Pointed.{Pointed}
+use Rattle.coordinate.specs.declared.Pointed.the-variants as P
+use Rattle.coordinate.specs.Coordinate.{pointed, Converts}
 use Rattle.transform.specs.declared.Strans.{Strans}
 use Rattle.transform.specs.Strans.{saidOf, stransBytes, stransLength}
 use Rattle.transform.proofs.StransLaws.{then-strans, length-strans, length-strans-of, transform-length}

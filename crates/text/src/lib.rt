@@ -14,8 +14,8 @@ ghost use Rattle.writing.specs.Steps.{Measures, Succeeds, Writes};
 ghost use Rattle.text.specs.Text.{sizeOf, textBytes, textLength, afterChecks, textOf, readyOf};
 use conversion::Entry;
 use conversion::GdsRoundingPolicy;
+use coordinate::Pointed;
 use forms::TextPlaces;
-use points::Pointed;
 use refusal::Refusal;
 use transform::Strans;
 use transform::Transform;
@@ -69,7 +69,7 @@ fn convert_text(
     match transform::write_transformation(text.degrees, text.magnification, text.reflection) {
         Transform::Refused { refusal } => TextValues::Refused { refusal },
         Transform::Encoded { strans } => {
-            match points::convert_point(
+            match coordinate::convert_point(
                 policy,
                 d,
                 b,
@@ -172,7 +172,7 @@ fn put_records_at(
     let a3 = records::put_word_at(out, a2, records::TEXTTYPE, records::TWO_BYTE, text.texttype);
     let a4 = records::put_word_at(out, a3, records::PRESENTATION, records::BIT_ARRAY, bits);
     let a5 = transform::put_strans_at(out, a4, strans);
-    let a6 = transform::put_origin_at(out, a5, x, y);
+    let a6 = coordinate::put_xy_at(out, a5, x, y);
     records::put_string_at(out, a6, records::STRING, forms::string_at(b, text.string))
 }
 

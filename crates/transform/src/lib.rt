@@ -3,11 +3,10 @@ ghost use mathlib.Core.Path.{_≡_};
 ghost use Prim.Native.Nat.{_+_, _≤_};
 ghost use lib.ListN.{length};
 ghost use mathlib.Core.Bool.{_||_};
-ghost use mathlib.Core.List.{[], _∷_};
 ghost use Rattle.big_endian.specs.Big.{bytesOf};
-ghost use Rattle.stream.specs.Records.{stransBits, xyRecord};
+ghost use Rattle.stream.specs.Records.{stransBits};
 ghost use Rattle.cell.specs.Write.{writeReal, writeMagnification, writeAngle, writeTransform};
-ghost use Rattle.records.specs.Bytes.{Placed, Recorded, optionOf};
+ghost use Rattle.records.specs.Bytes.{Placed, optionOf};
 ghost use Rattle.transform.specs.Strans.{realOf, withAngle, saidOf, transformOf, stransBytes, realLength, stransLength};
 use gds_format::Encoding;
 use gds_format::Real8;
@@ -37,12 +36,10 @@ pub enum Transform {
 // The STRANS bits for a reflection (`STRANS_X_REFLECTION`).
 const X_REFLECTION: u16 = 0x8000;
 
-// The bytes of a STRANS, of a MAG or an ANGLE, and of an XY of one point.
+// The bytes of a STRANS, and of a MAG or an ANGLE.
 const STRANS_LENGTH: usize = 6;
 
 const REAL_LENGTH: usize = 12;
-
-const ORIGIN_LENGTH: u16 = 12;
 
 // `encode_gds_real8`.
 fn write_real(x: f64) -> Real
@@ -171,14 +168,4 @@ pub fn put_strans_at(out: &mut [u8], at: usize, s: Strans) -> usize
         return records::put_opt_real_at(out, b, records::ANGLE, s.turned, s.angle);
     }
     at
-}
-
-// XY of one point, at a place: the origin of a text or of a 1 × 1 reference.
-pub fn put_origin_at(out: &mut [u8], at: usize, x: i32, y: i32) -> usize
-    requires { ⌜ at + 12 ≤ length (now out) ⌝ }
-    ensures { λ r. ⌜ Recorded (xyRecord (record { x = x; y = y } ∷ [])) 12 (now (out .entry)) (now (out .exit)) at r ⌝ }
-{
-    let a = records::put_head_at(out, at, ORIGIN_LENGTH, records::XY, records::FOUR_BYTE);
-    let b = big_endian::put_i32_at(out, a, x);
-    big_endian::put_i32_at(out, b, y)
 }

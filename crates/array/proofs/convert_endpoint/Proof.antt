@@ -9,8 +9,8 @@ use Rattle.conversion.specs.Field.{xAxis, yAxis}
 use Rattle.conversion.specs.Points.{spot}
 use Rattle.conversion.specs.Array.{endpointPhysical}
 use Rattle.conversion.specs.Convert.{arrayEndpoint}
-use Rattle.points.specs.Walk.{ValueGrown, Values}
-use Rattle.points.proofs.ValueLaws.{same-values}
+use Rattle.coordinate.specs.Coordinate.{ValueGrown, Values}
+use Rattle.coordinate.proofs.ValueLaws.{same-values}
 use Rattle.array.specs.Corners.{physicalPart, databasePart}
 use Rattle.array.proofs.CoordinateLaws.{same-endpoint, end-stops, end-stops-at-y, end-made}
 use borrow.Author.Needs.{needs}

@@ -9,8 +9,8 @@ use Rattle.conversion.specs.Answer.{pointOf}
 use Rattle.conversion.specs.Convert.{convertPhysical}
 use Rattle.conversion.specs.Field.{xAxis, yAxis}
 use Rattle.conversion.specs.Points.{spot}
-use Rattle.points.specs.Walk.{ValueGrown, Values}
-use Rattle.points.proofs.ValueLaws.{same-values}
+use Rattle.coordinate.specs.Coordinate.{ValueGrown, Values}
+use Rattle.coordinate.proofs.ValueLaws.{same-values}
 use Rattle.array.proofs.CoordinateLaws.{point-stops, point-stops-at-y, point-made}
 use borrow.Author.Needs.{needs}
 use Rattle.array.proofs.convert_physical_point.Statement.{statement}

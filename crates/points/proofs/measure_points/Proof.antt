@@ -9,8 +9,9 @@ use Rattle.units.specs.Point.{Point}
 use Rattle.conversion.specs.Fold.{run}
 use Rattle.conversion.specs.Points.{writePoints}
 use Rattle.forms.specs.Place.{pointsFrom}
+use Rattle.coordinate.specs.Coordinate.{PointGrown}
 use Rattle.points.specs.declared.Walked.the-variants as W
-use Rattle.points.specs.Walk.{through, walked, PointGrown}
+use Rattle.points.specs.Walk.{through, walked}
 use Rattle.points.proofs.WalkLaws.{point-back, go-on, go-stop, whole-first}
 use Rattle.points.proofs.IntegerLaws.{pass-measured}
 use borrow.Author.Needs.{needs}

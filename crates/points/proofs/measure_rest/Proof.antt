@@ -15,11 +15,12 @@ use Rattle.conversion.specs.declared.GdsRoundingPolicy.{GdsRoundingPolicy}
 use Rattle.conversion.specs.Fold.{run}
 use Rattle.conversion.specs.Points.{writePoint, writePoints}
 use Rattle.forms.specs.Place.{pointAt, pointsFrom}
+use Rattle.coordinate.specs.declared.Pointed.the-variants as P
+use Rattle.coordinate.specs.Coordinate.{Converts}
+use Rattle.coordinate.proofs.ValueLaws.{point-recorded, point-plain, point-read}
 use Rattle.points.specs.declared.Walked.{Walked}
-use Rattle.points.specs.declared.Pointed.the-variants as P
 use Rattle.points.specs.declared.Walked.the-variants as W
-use Rattle.points.specs.Walk.{through, Converts}
-use Rattle.points.proofs.ValueLaws.{point-recorded, point-plain, point-read}
+use Rattle.points.specs.Walk.{through}
 use Rattle.points.proofs.WalkLaws.{pointOf, point-back, go-on, go-stop, go-end}
 use Rattle.points.proofs.measure_rest.Statement.{statement}
 use Rattle.points.proofs.measure_rest.Tie as tie

@@ -19,7 +19,7 @@ use Rattle.stream.specs.Records.{pointsBytes}
 use Rattle.forms.specs.Place.{pointAt, pointsFrom}
 use Rattle.writing.specs.Steps.{Succeeds}
 use Rattle.writing.proofs.StepLaws.{Outcome, stopped, putting, writes}
-use Rattle.points.proofs.ValueLaws.{point-recorded, point-plain}
+use Rattle.coordinate.proofs.ValueLaws.{point-recorded, point-plain}
 use Rattle.points.proofs.WalkLaws.{go-on, go-end, whole-first, put-turn, put-end, Turn, point-put, never-pointed, first-succeeds}
 use Rattle.points.proofs.put_converted.Statement.{statement}
 use Rattle.points.proofs.put_converted.Tie as tie

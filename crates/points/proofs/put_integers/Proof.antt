@@ -1,16 +1,16 @@
 -- `points::put_integers` meets its contract: what is left to write, at the place reached, stays what the whole was; the measure is how many points are left. Assumes nothing.
-use mathlib.Core.Path.{_≡_, refl, sym, ap₂, _∙_}
-use mathlib.Core.List.{List, _++_}
+use mathlib.Core.Path.{_≡_, refl, sym, _∙_}
+use mathlib.Core.List.{List}
 use Prim.Native.Nat.{ℕ, _+_, _*_, _-_, _≤_}
 use native.Mathlib.Omega.{arith}
 use lib.ListN.{length}
-use lib.IntN.{ℤ}
 use mir.Val.{SFits}
 use mir.Syntax.{w32}
 use mir.ValLaws.{toZ-ofZ}
 use Rattle.big_endian.specs.Buffer.{splice}
-use Rattle.big_endian.proofs.BufferLaws.{length-at, same-bytes}
-use Rattle.stream.specs.Records.{longBytes, pointsBytes}
+use Rattle.big_endian.proofs.BufferLaws.{length-at}
+use Rattle.stream.specs.Records.{pointsBytes}
+use Rattle.coordinate.proofs.ValueLaws.{same-point}
 use Rattle.points.specs.Integers.{integersFrom}
 use Rattle.points.proofs.IntegerLaws.{length-integers, left, left-start, left-turn, left-end}
 use borrow.Author.Needs.{needs}
@@ -63,7 +63,7 @@ loop-again c =
     let y = c .before .before .before .integer-at2 in
     let f : SFits w32 (x .result) = search needs in
     let g : SFits w32 (y .result) = search needs in
-    let w = same-bytes (ap₂ (λ (p q : ℤ). longBytes p ++ longBytes q) (toZ-ofZ w32 (x .result) f ∙ x .ensures) (toZ-ofZ w32 (y .result) g ∙ y .ensures)) (c .before .before .put-point .ensures) in
+    let w = same-point (toZ-ofZ w32 (x .result) f ∙ x .ensures) (toZ-ofZ w32 (y .result) g ∙ y .ensures) (c .before .before .put-point .ensures) in
     let j = w .count in
     record {
       within = omega arith;

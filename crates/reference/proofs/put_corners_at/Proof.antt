@@ -5,7 +5,8 @@ use mir.Syntax.{w32}
 use mir.Val.{SFits}
 use mir.ValLaws.{toZ-ofZ}
 use Rattle.big_endian.proofs.BufferLaws.{length-at}
-use Rattle.reference.proofs.RecordLaws.{same-point, corners-placed}
+use Rattle.coordinate.proofs.ValueLaws.{same-point}
+use Rattle.reference.proofs.RecordLaws.{corners-placed}
 use borrow.Author.Needs.{needs}
 use Rattle.reference.proofs.put_corners_at.Statement.{statement}
 use Rattle.reference.proofs.put_corners_at.Tie as tie

@@ -29,20 +29,20 @@ put-strans-at-requires c κs =
     let p = c .before .before .before .before .before .before .before .before .before .before .before .before .pre in
     strans-room (a .b .now) (a .s) (a .strans) (p .0) _ (c .before .before .before .before .string-at .ensures) singleRest (p .1 .1) (c .before .before .before .before .before .before .before .before .put-empty-at .ensures) (c .before .before .before .put-string-at .ensures)
 
-put-origin-at-requires : tie.Need-put-origin-at-requires
-put-origin-at-requires c κs =
+put-xy-at-requires : tie.Need-put-xy-at-requires
+put-xy-at-requires c κs =
     let a = c .before .before .before .before .before .before .before .before .before .before .before .before .before .before .before .before .args in
     let p = c .before .before .before .before .before .before .before .before .before .before .before .before .before .before .before .before .pre in
     rest-room (a .b .now) (a .s) (a .strans) (p .0) _ (c .before .before .before .before .before .before .before .before .string-at .ensures) singleRest (p .1 .1) (c .before .before .before .before .before .before .before .before .before .before .before .before .put-empty-at .ensures) (c .before .before .before .before .before .before .before .put-string-at .ensures) (c .before .before .before .put-strans-at .ensures)
 
 same-length : tie.Need-same-length
 same-length c =
-    c .before .before .put-origin-at .ensures .long ∙ c .before .before .before .before .before .before .put-strans-at .ensures .long ∙ c .before .before .before .before .before .before .before .before .before .before .put-string-at .ensures .long ∙ c .before .before .before .before .before .before .before .before .before .before .before .before .before .before .before .put-empty-at .ensures .long
+    c .before .before .put-xy-at .ensures .long ∙ c .before .before .before .before .before .before .put-strans-at .ensures .long ∙ c .before .before .before .before .before .before .before .before .before .before .put-string-at .ensures .long ∙ c .before .before .before .before .before .before .before .before .before .before .before .before .before .before .before .put-empty-at .ensures .long
 
 returns : tie.Need-returns
 returns c =
     let a = c .before .before .before .before .before .before .before .before .before .before .before .before .before .before .before .before .before .before .before .args in
-    sref-placed (a .b .now) (a .s) (a .strans) (c .before .before .before .before .before .before .before .before .before .before .before .before .before .before .before .before .before .before .before .pre .0) _ (c .before .before .before .before .before .before .before .before .before .before .before .string-at .ensures) (a .x) (a .y) _ _ (toZ-ofZ w32 (a .x) (c .before .before .before .before .before .before .before .before .before .before .before .before .before .before .before .before .before .before .before .fits .x)) (toZ-ofZ w32 (a .y) (c .before .before .before .before .before .before .before .before .before .before .before .before .before .before .before .before .before .before .before .fits .y)) (c .before .before .before .before .before .before .before .before .before .before .before .before .before .before .before .put-empty-at .ensures) (c .before .before .before .before .before .before .before .before .before .before .put-string-at .ensures) (c .before .before .before .before .before .before .put-strans-at .ensures) (c .before .before .put-origin-at .ensures)
+    sref-placed (a .b .now) (a .s) (a .strans) (c .before .before .before .before .before .before .before .before .before .before .before .before .before .before .before .before .before .before .before .pre .0) _ (c .before .before .before .before .before .before .before .before .before .before .before .string-at .ensures) (a .x) (a .y) _ _ (toZ-ofZ w32 (a .x) (c .before .before .before .before .before .before .before .before .before .before .before .before .before .before .before .before .before .before .before .fits .x)) (toZ-ofZ w32 (a .y) (c .before .before .before .before .before .before .before .before .before .before .before .before .before .before .before .before .before .before .before .fits .y)) (c .before .before .before .before .before .before .before .before .before .before .before .before .before .before .before .put-empty-at .ensures) (c .before .before .before .before .before .before .before .before .before .before .put-string-at .ensures) (c .before .before .before .before .before .before .put-strans-at .ensures) (c .before .before .put-xy-at .ensures)
 
 pub put-sref-at-spec : {M : Type 1} → statement M
 put-sref-at-spec =
@@ -52,6 +52,6 @@ put-sref-at-spec =
     string-at-requires
     put-string-at-requires
     put-strans-at-requires
-    put-origin-at-requires
+    put-xy-at-requires
     same-length
     returns)

@@ -33,8 +33,8 @@ put-word-at-requires-3 c κs = search needs
 put-strans-at-requires : tie.Need-put-strans-at-requires
 put-strans-at-requires c κs = search needs
 
-put-origin-at-requires : tie.Need-put-origin-at-requires
-put-origin-at-requires c κs = search needs
+put-xy-at-requires : tie.Need-put-xy-at-requires
+put-xy-at-requires c κs = search needs
 
 string-at-requires : tie.Need-string-at-requires
 string-at-requires c κs = c .before .before .before .before .before .before .before .before .before .before .before .before .before .before .before .before .before .before .before .before .before .before .before .before .before .before .before .before .pre .0
@@ -54,8 +54,8 @@ put-string-at-requires c κs =
     let l4 = c .before .before .before .before .before .before .before .before .before .before .before .before .put-word-at3 .ensures .long in
     let e5 = c .before .before .before .before .before .before .before .before .put-strans-at .ensures .end in
     let l5 = c .before .before .before .before .before .before .before .before .put-strans-at .ensures .long in
-    let e6 = c .before .before .before .before .put-origin-at .ensures .end in
-    let l6 = c .before .before .before .before .put-origin-at .ensures .long in
+    let e6 = c .before .before .before .before .put-xy-at .ensures .end in
+    let l6 = c .before .before .before .before .put-xy-at .ensures .long in
     (omega arith, omega arith)
 
 same-length : tie.Need-same-length
@@ -68,7 +68,7 @@ returns c =
     text-placed (a .b .now) (a .text) (a .strans) (a .x) (a .y) _ _ (c .before .before .before .before .before .before .before .before .before .before .before .before .before .before .before .before .before .before .before .before .before .before .before .before .before .before .before .before .before .presentation .result) _ (c .before .before .before .string-at .result .now)
     (toZ-ofZ w32 (a .x) (s .fits .x)) (toZ-ofZ w32 (a .y) (s .fits .y)) (c .before .before .before .before .before .before .before .before .before .before .before .before .before .before .before .before .before .before .before .before .before .before .before .before .before .before .before .before .before .presentation .ensures) (c .before .before .before .string-at .ensures) (long (c .before .before .before))
     (c .before .before .before .before .before .before .before .before .before .before .before .before .before .before .before .before .before .before .before .before .before .before .before .before .before .before .before .put-empty-at .ensures) (c .before .before .before .before .before .before .before .before .before .before .before .before .before .before .before .before .before .before .before .before .before .before .before .put-word-at .ensures) (c .before .before .before .before .before .before .before .before .before .before .before .before .before .before .before .before .before .before .before .put-word-at2 .ensures) (c .before .before .before .before .before .before .before .before .before .before .before .before .before .before .before .put-word-at3 .ensures) (c .before .before .before .before .before .before .before .before .before .before .before .put-strans-at .ensures)
-    (c .before .before .before .before .before .before .before .put-origin-at .ensures) (c .before .before .put-string-at .ensures)
+    (c .before .before .before .before .before .before .before .put-xy-at .ensures) (c .before .before .put-string-at .ensures)
 
 pub put-records-at-spec : {M : Type 1} → statement M
 put-records-at-spec =
@@ -80,7 +80,7 @@ put-records-at-spec =
     put-word-at-requires-2
     put-word-at-requires-3
     put-strans-at-requires
-    put-origin-at-requires
+    put-xy-at-requires
     string-at-requires
     put-string-at-requires
     same-length

@@ -1,4 +1,4 @@
--- `points::plain_point` meets its contract: a value for each that is neither refused nor quantized. Assumes nothing.
+-- `coordinate::plain_point` meets its contract: a value for each that is neither refused nor quantized. Assumes nothing.
 use mathlib.Core.Path.{_≡_, refl, sym, ap₂, _∙_}
 use mathlib.Core.Logic.{⊎-elim}
 use mathlib.Core.List.{[], _∷_}
@@ -11,11 +11,11 @@ use denote.Enum.Declared.{tagOf}
 use Rattle.conversion.specs.declared.Conversion.{Conversion}
 use Rattle.conversion.specs.declared.Conversion.the-variants as C
 use Rattle.conversion.proofs.Conversion.{the-type}
-use Rattle.points.specs.declared.Plain.the-variants as L
-use Rattle.points.specs.Walk.{plainOf}
+use Rattle.coordinate.specs.declared.Plain.the-variants as L
+use Rattle.coordinate.specs.Coordinate.{plainOf}
 use borrow.Author.Needs.{needs}
-use Rattle.points.proofs.plain_point.Statement.{statement}
-use Rattle.points.proofs.plain_point.Tie as tie
+use Rattle.coordinate.proofs.plain_point.Statement.{statement}
+use Rattle.coordinate.proofs.plain_point.Tie as tie
 
 -- the first or the last of the variants
 x-other : (cx cy : Conversion) → OneOf (0 ∷ 2 ∷ []) (tagOf the-type cx) → L.No ≡ plainOf cx cy

@@ -1,5 +1,6 @@
--- A value's answer is its step's, and so is a point's: each way out of the code. Assumes nothing.
+-- A value's answer is its step's, and so is a point's: each way out of the code; and a point's bytes. Assumes nothing.
 use mathlib.Core.Path.{_≡_, refl, sym, ap, ap₂, _∙_, subst}
+use mathlib.Core.List.{List, _++_}
 use Prim.Native.Nat.{ℕ, _+_, _≤_}
 use native.Mathlib.Omega.{arith}
 use lib.IntN.{ℤ}
@@ -7,6 +8,8 @@ use lib.Ieee.{Float}
 use mir.Syntax.{w32}
 use mir.Val.{SFits, toZ, ofZ}
 use mir.ValLaws.{toZ-ofZ}
+use Rattle.big_endian.specs.Buffer.{WroteAt}
+use Rattle.big_endian.proofs.BufferLaws.{same-bytes}
 use Rattle.refusal.specs.declared.Refusal.{Refusal}
 use Rattle.units.specs.declared.Unit.{Unit}
 use Rattle.units.specs.Point.{Point}
@@ -22,13 +25,14 @@ use Rattle.conversion.specs.Fold.{noted, notedAll, run}
 use Rattle.conversion.specs.Made.{Made, pure, _>>=_}
 use Rattle.conversion.specs.Points.{spot, writePoint}
 use Rattle.conversion.proofs.FoldLaws.{noted-count, run-bind, run-pure}
+use Rattle.stream.specs.Records.{longBytes}
 use Rattle.writing.proofs.StepLaws.{run-through}
-use Rattle.points.specs.declared.Valued.{Valued}
-use Rattle.points.specs.declared.Valued.the-variants as G
-use Rattle.points.specs.declared.Plain.the-variants as L
-use Rattle.points.specs.declared.Pointed.{Pointed}
-use Rattle.points.specs.declared.Pointed.the-variants as P
-use Rattle.points.specs.Walk.{valued, ValueGrown, Values, pointed, Converts, both, plainOf}
+use Rattle.coordinate.specs.declared.Valued.{Valued}
+use Rattle.coordinate.specs.declared.Valued.the-variants as G
+use Rattle.coordinate.specs.declared.Plain.the-variants as L
+use Rattle.coordinate.specs.declared.Pointed.{Pointed}
+use Rattle.coordinate.specs.declared.Pointed.the-variants as P
+use Rattle.coordinate.specs.Coordinate.{valued, ValueGrown, Values, pointed, Converts, both, plainOf}
 
 -- ---- a conversion's answer. z and w are what the machine reads back of the value q.
 
@@ -143,3 +147,8 @@ point-read {e} {m} {r} c x y e1 g f h {x1} {y1} {e2} i j k =
     let b : toZ w32 y1 ≡ y = ap (toZ w32) j ∙ toZ-ofZ w32 y h in
     let q : r ≡ P.At (toZ w32 x1) (toZ w32 y1) e2 = cc in
     subst (Converts e m) q c
+
+-- ---- its bytes. z and w are what the machine reads back of x and y.
+
+pub same-point : {x y z w : ℤ} {d cur : List ℕ} {at to : ℕ} → z ≡ x → w ≡ y → WroteAt (longBytes z ++ longBytes w) d cur at to → WroteAt (longBytes x ++ longBytes y) d cur at to
+same-point i j v = same-bytes (ap₂ (λ (x y : ℤ). longBytes x ++ longBytes y) i j) v

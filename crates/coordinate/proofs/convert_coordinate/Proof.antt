@@ -1,9 +1,9 @@
--- `points::convert_coordinate` meets its contract. Assumes nothing.
+-- `coordinate::convert_coordinate` meets its contract. Assumes nothing.
 use Rattle.conversion.specs.Points.{spot}
-use Rattle.points.proofs.ValueLaws.{same-values}
+use Rattle.coordinate.proofs.ValueLaws.{same-values}
 use borrow.Author.Needs.{needs}
-use Rattle.points.proofs.convert_coordinate.Statement.{statement}
-use Rattle.points.proofs.convert_coordinate.Tie as tie
+use Rattle.coordinate.proofs.convert_coordinate.Statement.{statement}
+use Rattle.coordinate.proofs.convert_coordinate.Tie as tie
 
 convert-at-requires : tie.Need-convert-at-requires
 convert-at-requires c κs = search needs

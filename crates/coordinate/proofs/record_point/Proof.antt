@@ -1,15 +1,15 @@
--- `points::record_point` meets its contract: x, then y. Assumes nothing.
+-- `coordinate::record_point` meets its contract: x, then y. Assumes nothing.
 use mathlib.Core.Path.{subst}
 use Prim.Native.Nat.{_+_, _≤_}
 use native.Mathlib.Omega.{arith}
 use mir.Syntax.{w32}
 use mir.Val.{SFits}
 use mir.ValLaws.{toZ-ofZ}
-use Rattle.points.specs.Walk.{ValueGrown}
-use Rattle.points.proofs.ValueLaws.{point-stops, point-stops-at-y, point-made}
+use Rattle.coordinate.specs.Coordinate.{ValueGrown}
+use Rattle.coordinate.proofs.ValueLaws.{point-stops, point-stops-at-y, point-made}
 use borrow.Author.Needs.{needs}
-use Rattle.points.proofs.record_point.Statement.{statement}
-use Rattle.points.proofs.record_point.Tie as tie
+use Rattle.coordinate.proofs.record_point.Statement.{statement}
+use Rattle.coordinate.proofs.record_point.Tie as tie
 
 record-quantization-requires : tie.Need-record-quantization-requires
 record-quantization-requires c κs = search needs

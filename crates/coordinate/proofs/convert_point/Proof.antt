@@ -1,9 +1,9 @@
--- `points::convert_point` meets its contract, by the conversions of both coordinates. Assumes nothing.
+-- `coordinate::convert_point` meets its contract, by the conversions of both coordinates. Assumes nothing.
 use Rattle.forms.specs.Place.{pointAt}
-use Rattle.points.proofs.ValueLaws.{point-recorded}
+use Rattle.coordinate.proofs.ValueLaws.{point-recorded}
 use borrow.Author.Needs.{needs}
-use Rattle.points.proofs.convert_point.Statement.{statement}
-use Rattle.points.proofs.convert_point.Tie as tie
+use Rattle.coordinate.proofs.convert_point.Statement.{statement}
+use Rattle.coordinate.proofs.convert_point.Tie as tie
 
 convert-at-requires : tie.Need-convert-at-requires
 convert-at-requires c κs = search needs

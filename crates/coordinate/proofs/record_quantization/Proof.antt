@@ -1,12 +1,12 @@
--- `points::record_quantization` meets its contract. Assumes nothing.
+-- `coordinate::record_quantization` meets its contract. Assumes nothing.
 use mir.Syntax.{w32}
 use mir.Val.{SFits}
 use mir.ValLaws.{toZ-ofZ}
 use Rattle.conversion.specs.Points.{spot}
-use Rattle.points.proofs.ValueLaws.{value-refused, value-exact, value-quantized}
+use Rattle.coordinate.proofs.ValueLaws.{value-refused, value-exact, value-quantized}
 use borrow.Author.Needs.{needs}
-use Rattle.points.proofs.record_quantization.Statement.{statement}
-use Rattle.points.proofs.record_quantization.Tie as tie
+use Rattle.coordinate.proofs.record_quantization.Statement.{statement}
+use Rattle.coordinate.proofs.record_quantization.Tie as tie
 
 enum-known-c : tie.Need-enum-known-c
 enum-known-c c = search needs

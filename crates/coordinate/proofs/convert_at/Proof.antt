@@ -1,9 +1,9 @@
--- `points::convert_at` meets its contract: the coordinate that is read, and then its conversion. Assumes nothing.
+-- `coordinate::convert_at` meets its contract: the coordinate that is read, and then its conversion. Assumes nothing.
 use mathlib.Core.Path.{ap, _∙_}
 use Rattle.conversion.specs.Convert.{convertUnit}
 use borrow.Author.Needs.{needs}
-use Rattle.points.proofs.convert_at.Statement.{statement}
-use Rattle.points.proofs.convert_at.Tie as tie
+use Rattle.coordinate.proofs.convert_at.Statement.{statement}
+use Rattle.coordinate.proofs.convert_at.Tie as tie
 
 unit-at-requires : tie.Need-unit-at-requires
 unit-at-requires c κs = search needs

@@ -1,12 +1,12 @@
--- `points::put_point` meets its contract: x, then y. Assumes nothing.
+-- `coordinate::put_point` meets its contract: x, then y. Assumes nothing.
 use mathlib.Core.Path.{ap}
 use mir.Syntax.{w32}
 use mir.ValLaws.{toZ-ofZ}
 use Rattle.big_endian.proofs.BufferLaws.{then-at, same-bytes}
 use Rattle.stream.specs.Records.{longBytes}
 use borrow.Author.Needs.{needs}
-use Rattle.points.proofs.put_point.Statement.{statement}
-use Rattle.points.proofs.put_point.Tie as tie
+use Rattle.coordinate.proofs.put_point.Statement.{statement}
+use Rattle.coordinate.proofs.put_point.Tie as tie
 
 put-i32-at-requires : tie.Need-put-i32-at-requires
 put-i32-at-requires c κs = search needs
