@@ -1,13 +1,6 @@
--- Laws of the pairs and blocks, of both walks over them, of the head, and of the cell as a whole.
-pub mod PairLaws
-pub mod WalkLaws
-pub mod BlocksLaws
-pub mod HeadLaws
-pub mod SheetLaws
-pub mod PutLaws
-pub mod PutHeadLaws
+-- Laws of the caller's checks, and of the cell as a whole.
+pub mod CallLaws
 pub mod CellLaws
-pub mod StructureLaws
 pub mod RoomLaws
 pub mod EdgesLaws
 pub mod StayLaws

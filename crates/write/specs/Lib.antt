@@ -1,3 +1,2 @@
--- What measuring answers for blocks in turn, and what writing a cell promises.
-pub mod Walk
+-- What measuring and writing a cell promise.
 pub mod Writer

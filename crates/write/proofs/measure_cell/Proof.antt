@@ -1,7 +1,7 @@
 -- `write::measure_cell` meets its contract: the caller's checks, then the sheet. Assumes nothing.
 use mathlib.Core.Path.{_∙_}
 use borrow.Author.Needs.{needs}
-use Rattle.write.proofs.SheetLaws.{caller-stop, size-stop, cell-is, measures}
+use Rattle.write.proofs.CallLaws.{caller-stop, size-stop, cell-is, measures}
 use Rattle.write.proofs.measure_cell.Statement.{statement}
 use Rattle.write.proofs.measure_cell.Tie as tie
 

@@ -18,8 +18,8 @@ use Rattle.records.proofs.RecordLaws.{record-at}
 use Rattle.forms.specs.declared.HeadPlaces.{HeadPlaces}
 use Rattle.forms.specs.Place.{valuesFrom, wordsFrom, stringAt}
 use Rattle.forms.specs.Forms.{headAt}
-use Rattle.write.specs.Walk.{headBytes}
-use Rattle.write.proofs.HeadLaws.{length-words, head-length, words-bytes}
+use Rattle.walk.specs.Walk.{headBytes}
+use Rattle.walk.proofs.HeadLaws.{length-words, head-length, words-bytes}
 
 -- a number of two bytes, as its bytes
 word-back : (x y : ℕ) → x < 256 → y < 256 → bytesOf 2 (x * 256 + y) ≡ x ∷ y ∷ []

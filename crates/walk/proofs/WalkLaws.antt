@@ -26,10 +26,10 @@ use Rattle.cell.specs.Cell.{Result, stopped, written, inFront, writeBlocks}
 use Rattle.cell.proofs.WalkLaws.{walk-ill, walk-refused, walk-made}
 use Rattle.writing.specs.declared.Measured.{Measured}
 use Rattle.writing.specs.declared.Measured.the-variants as M
-use Rattle.write.specs.declared.Totals.the-variants as T
+use Rattle.walk.specs.declared.Totals.the-variants as T
 use Rattle.elements.specs.Block.{measuredBlock}
 use Rattle.elements.proofs.BlockLaws.{Met, ill, refusing, writing, met}
-use Rattle.write.specs.Walk.{totalsFrom}
+use Rattle.walk.specs.Walk.{totalsFrom}
 
 -- ---- measuring
 

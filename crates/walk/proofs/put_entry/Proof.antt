@@ -1,9 +1,9 @@
 -- Nothing where no entry stands, else its 33 bytes (PutLaws). Assumes nothing.
 use lib.ListN.{length}
 use borrow.Author.Needs.{needs}
-use Rattle.write.proofs.PutLaws.{entry-none, entry-room, entry-put}
-use Rattle.write.proofs.put_entry.Statement.{statement}
-use Rattle.write.proofs.put_entry.Tie as tie
+use Rattle.walk.proofs.PutLaws.{entry-none, entry-room, entry-put}
+use Rattle.walk.proofs.put_entry.Statement.{statement}
+use Rattle.walk.proofs.put_entry.Tie as tie
 
 returns : tie.Need-returns
 returns c =

@@ -26,9 +26,9 @@ use Rattle.cell.specs.Write.{writeElement}
 use Rattle.cell.specs.Cell.{writeBlocks}
 use Rattle.writing.specs.declared.Written.{Written}
 use Rattle.elements.specs.Block.{Fits, WritesBlock}
-use Rattle.write.specs.Walk.{ElementsFit, PutsElements}
-use Rattle.write.proofs.PairLaws.{pairs-count, blocks-turn, blocks-end}
-use Rattle.write.proofs.WalkLaws.{Split, split, Reached, reached-start, reached-turn, reached-end}
+use Rattle.walk.specs.Walk.{ElementsFit, PutsElements}
+use Rattle.walk.proofs.PairLaws.{pairs-count, blocks-turn, blocks-end}
+use Rattle.walk.proofs.WalkLaws.{Split, split, Reached, reached-start, reached-turn, reached-end}
 
 -- ---- an element's entry
 

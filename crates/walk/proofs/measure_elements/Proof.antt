@@ -1,4 +1,4 @@
--- `write::measure_elements` meets its contract. What is left to measure, on top of what was gathered, stays what the whole was; the measure is how many blocks are left. Assumes nothing.
+-- `walk::measure_elements` meets its contract. What is left to measure, on top of what was gathered, stays what the whole was; the measure is how many blocks are left. Assumes nothing.
 use mathlib.Core.Path.{_≡_, sym, ap, ap₂, _∙_}
 use mathlib.Core.List.{List}
 use Prim.Native.Nat.{ℕ, _+_, _*_, _-_, _≤_, _<_}
@@ -12,11 +12,11 @@ use Rattle.conversion.proofs.DeviationLaws.{zero-is}
 use Rattle.sheet.specs.Cell.{elementBlocks}
 use Rattle.cell.specs.Limits.{maxSheetLength}
 use Rattle.cell.specs.Cell.{writeBlocks}
-use Rattle.write.specs.Walk.{totalsFrom}
-use Rattle.write.proofs.PairLaws.{pairs-count, block-in}
-use Rattle.write.proofs.BlocksLaws.{block-within, block-short, stands-once, left, left-start, left-stop, left-turn, left-end}
-use Rattle.write.proofs.measure_elements.Statement.{statement}
-use Rattle.write.proofs.measure_elements.Tie as tie
+use Rattle.walk.specs.Walk.{totalsFrom}
+use Rattle.walk.proofs.PairLaws.{pairs-count, block-in}
+use Rattle.walk.proofs.BlocksLaws.{block-within, block-short, stands-once, left, left-start, left-stop, left-turn, left-end}
+use Rattle.walk.proofs.measure_elements.Statement.{statement}
+use Rattle.walk.proofs.measure_elements.Tie as tie
 
 -- the most that one block adds
 abbrev most : ℕ

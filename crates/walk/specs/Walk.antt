@@ -23,10 +23,10 @@ use Rattle.cell.specs.Limits.{maxSheetLength}
 use Rattle.cell.specs.Stamps.{stampsFit}
 use Rattle.cell.specs.Names.{isName}
 use Rattle.cell.specs.Cell.{Result, stopped, written, writeBlocks, writeSheet, structureBytes, entryLength}
-use Rattle.write.specs.declared.HeadMeasured.{HeadMeasured}
-use Rattle.write.specs.declared.HeadMeasured.the-variants as H
-use Rattle.write.specs.declared.Totals.{Totals}
-use Rattle.write.specs.declared.Totals.the-variants as T
+use Rattle.walk.specs.declared.HeadMeasured.{HeadMeasured}
+use Rattle.walk.specs.declared.HeadMeasured.the-variants as H
+use Rattle.walk.specs.declared.Totals.{Totals}
+use Rattle.walk.specs.declared.Totals.the-variants as T
 
 -- ---- the head
 

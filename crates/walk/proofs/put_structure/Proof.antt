@@ -1,8 +1,8 @@
 -- The head, the blocks in turn, then ENDSTR (StructureLaws). Assumes nothing.
 use borrow.Author.Needs.{needs}
-use Rattle.write.proofs.StructureLaws.{sheet-pairs, head-block, never-ill, places-in, name-most, head-fits, elements-fit, end-fits, puts-structure}
-use Rattle.write.proofs.put_structure.Statement.{statement}
-use Rattle.write.proofs.put_structure.Tie as tie
+use Rattle.walk.proofs.StructureLaws.{sheet-pairs, head-block, never-ill, places-in, name-most, head-fits, elements-fit, end-fits, puts-structure}
+use Rattle.walk.proofs.put_structure.Statement.{statement}
+use Rattle.walk.proofs.put_structure.Tie as tie
 
 block-requires : tie.Need-block-requires
 block-requires c κs =

@@ -25,8 +25,8 @@ use Rattle.forms.specs.declared.HeadForm.the-variants as F
 use Rattle.forms.specs.Place.{valuesFrom, wordsFrom, stringAt}
 use Rattle.forms.specs.Forms.{headAt, HeadIn}
 use Rattle.forms.specs.Checks.{HeadRead}
-use Rattle.write.specs.declared.HeadMeasured.the-variants as H
-use Rattle.write.specs.Walk.{headBytes, headMeasured}
+use Rattle.walk.specs.declared.HeadMeasured.the-variants as H
+use Rattle.walk.specs.Walk.{headBytes, headMeasured}
 
 -- ---- lengths
 

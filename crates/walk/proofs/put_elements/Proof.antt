@@ -2,10 +2,10 @@
 use Prim.Native.Nat.{_-_}
 use native.Mathlib.Omega.{arith}
 use borrow.Author.Needs.{needs}
-use Rattle.write.proofs.PairLaws.{pairs-count, block-in}
-use Rattle.write.proofs.PutLaws.{Turns, turns-start, turns-end, out-same, report-same, index-small, turn-place, turn-fits, turn-end, turn-report, turn-next}
-use Rattle.write.proofs.put_elements.Statement.{statement}
-use Rattle.write.proofs.put_elements.Tie as tie
+use Rattle.walk.proofs.PairLaws.{pairs-count, block-in}
+use Rattle.walk.proofs.PutLaws.{Turns, turns-start, turns-end, out-same, report-same, index-small, turn-place, turn-fits, turn-end, turn-report, turn-next}
+use Rattle.walk.proofs.put_elements.Statement.{statement}
+use Rattle.walk.proofs.put_elements.Tie as tie
 
 abbrev Inv-loop : tie.InvT-loop
 Inv-loop policy d sheet out₀ start report₀ n next₀ to₀ at₀ out report next to at = Turns policy d sheet out₀ start report₀ n out report next to at

@@ -25,11 +25,11 @@ use Rattle.writing.specs.declared.Measured.{Measured}
 use Rattle.writing.specs.declared.Measured.the-variants as M
 use Rattle.elements.specs.Block.{measuredBlock, Short}
 use Rattle.elements.proofs.BlockLaws.{Met, met}
-use Rattle.write.specs.declared.Totals.{Totals}
-use Rattle.write.specs.declared.Totals.the-variants as T
-use Rattle.write.specs.Walk.{totalsFrom}
-use Rattle.write.proofs.PairLaws.{blocks-turn, blocks-end}
-use Rattle.write.proofs.WalkLaws.{totals-stop, totals-turn}
+use Rattle.walk.specs.declared.Totals.{Totals}
+use Rattle.walk.specs.declared.Totals.the-variants as T
+use Rattle.walk.specs.Walk.{totalsFrom}
+use Rattle.walk.proofs.PairLaws.{blocks-turn, blocks-end}
+use Rattle.walk.proofs.WalkLaws.{totals-stop, totals-turn}
 
 -- ---- an entry
 

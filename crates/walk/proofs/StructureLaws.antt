@@ -28,10 +28,10 @@ use Rattle.forms.specs.declared.HeadForm.the-variants as F
 use Rattle.forms.specs.Place.{stringAt}
 use Rattle.forms.specs.Forms.{headAt, HeadIn}
 use Rattle.forms.specs.Checks.{HeadRead}
-use Rattle.write.specs.Walk.{headBytes, ElementsFit, PutsElements, StructureFits, PutsStructure}
-use Rattle.write.proofs.PairLaws.{pairs-count, block-in}
-use Rattle.write.proofs.HeadLaws.{name-short}
-use Rattle.write.proofs.CellLaws.{Sheet, sheet-split}
+use Rattle.walk.specs.Walk.{headBytes, ElementsFit, PutsElements, StructureFits, PutsStructure}
+use Rattle.walk.proofs.PairLaws.{pairs-count, block-in}
+use Rattle.walk.proofs.HeadLaws.{name-short}
+use Rattle.walk.proofs.WrittenLaws.{Sheet, sheet-split}
 
 module _ {policy : GdsRoundingPolicy} {d : Float} {sheet : List ℕ} (out report : List ℕ) (fit : StructureFits policy d sheet (length out) (length report)) where
   abbrev parts : Sheet policy d sheet (fit .structure) (fit .entries)

@@ -1,14 +1,14 @@
--- `write::measure_sheet` meets its contract: pairs, head, elements, and the sum of their bytes. Assumes nothing.
+-- `walk::measure_sheet` meets its contract: pairs, head, elements, and the sum of their bytes. Assumes nothing.
 use mathlib.Core.Path.{refl, subst}
 use native.Mathlib.Omega.{arith}
 use borrow.Author.Needs.{needs}
 use Rattle.sheet.specs.Blocks.{pairCount}
-use Rattle.write.specs.Walk.{HeadSmall, TotalsSmall}
-use Rattle.write.proofs.PairLaws.{pairs-count, block-in}
-use Rattle.write.proofs.BlocksLaws.{pairs-hold}
-use Rattle.write.proofs.SheetLaws.{pairs-stop, head-stop, elements-stop, sheet-through}
-use Rattle.write.proofs.measure_sheet.Statement.{statement}
-use Rattle.write.proofs.measure_sheet.Tie as tie
+use Rattle.walk.specs.Walk.{HeadSmall, TotalsSmall}
+use Rattle.walk.proofs.PairLaws.{pairs-count, block-in}
+use Rattle.walk.proofs.BlocksLaws.{pairs-hold}
+use Rattle.walk.proofs.SheetLaws.{pairs-stop, head-stop, elements-stop, sheet-through}
+use Rattle.walk.proofs.measure_sheet.Statement.{statement}
+use Rattle.walk.proofs.measure_sheet.Tie as tie
 
 pairs-fit-requires : tie.Need-pairs-fit-requires
 pairs-fit-requires c κs = search needs

@@ -1,9 +1,9 @@
--- `write::entries_of` meets its contract. Assumes nothing.
+-- `walk::entries_of` meets its contract. Assumes nothing.
 use mathlib.Core.Path.{sym, ap}
 use lib.ListN.{length}
-use Rattle.write.proofs.BlocksLaws.{stands-not, stands}
-use Rattle.write.proofs.entries_of.Statement.{statement}
-use Rattle.write.proofs.entries_of.Tie as tie
+use Rattle.walk.proofs.BlocksLaws.{stands-not, stands}
+use Rattle.walk.proofs.entries_of.Statement.{statement}
+use Rattle.walk.proofs.entries_of.Tie as tie
 
 returns : tie.Need-returns
 returns c = sym (ap length (stands-not (c .before .before .args .entry) (c .if1 .taken)))

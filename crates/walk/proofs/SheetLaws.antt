@@ -1,23 +1,17 @@
--- The sheet measured, and the caller's checks before it: one law for each way out of the code. Assumes nothing.
+-- The sheet measured: one law for each way out of the code. Assumes nothing.
 use mathlib.Core.Path.{_≡_, refl, sym, ap, ap₂, _∙_, subst}
 use mathlib.Core.Bool.{Bool, true, false, not}
 use mathlib.Core.Option.{Option, none, some}
 use mathlib.Core.List.{List}
-use Prim.Native.Nat.{ℕ, _+_, _≤_, _<_}
+use Prim.Native.Nat.{ℕ, _+_}
 use native.Mathlib.Omega.{arith}
-use lib.Dec.{leb}
 use lib.ListN.{length, length-append}
 use lib.Ieee.{Float}
-use borrow.Author.Tests.{le-leb, lt-leb, not-true, not-false}
+use borrow.Author.Tests.{not-true, not-false}
 use Rattle.binary64.specs.Value.{zero64}
 use Rattle.refusal.specs.declared.Refusal.{Refusal}
 use Rattle.refusal.specs.declared.Refusal.the-variants as R
 use Rattle.conversion.specs.declared.GdsRoundingPolicy.{GdsRoundingPolicy}
-use Rattle.conversion.specs.declared.CallerPolicy.{CallerPolicy}
-use Rattle.conversion.specs.declared.CallerPolicy.the-variants as Caller
-use Rattle.conversion.specs.Made.{Made, pure}
-use Rattle.conversion.specs.Policy.{callerPolicy}
-use Rattle.conversion.specs.Answer.{callerOf}
 use Rattle.conversion.specs.Entry.{greatestFrom}
 use Rattle.sheet.specs.Element.{Head, headOf}
 use Rattle.sheet.specs.Blocks.{pairsFit, blockOf}
@@ -28,21 +22,18 @@ use Rattle.stream.specs.Record.{ENDSTR}
 use Rattle.stream.specs.Records.{emptyRecord, elementsBytes}
 use Rattle.stream.proofs.BytesLaws.{endBytes, structure-bytes}
 use Rattle.stream.proofs.BytesLaws as B
-use Rattle.cell.specs.declared.Answer.{Answer}
 use Rattle.cell.specs.declared.Answer.the-variants as A
-use Rattle.cell.specs.Limits.{maxSheetLength}
 use Rattle.cell.specs.Stamps.{stampsFit}
 use Rattle.cell.specs.Names.{isName}
-use Rattle.cell.specs.Cell.{Result, stopped, written, structureFor, structureWith, structureBytes, writeBlocks, writeHeaded, writeSheet, afterCaller, cellStructure}
-use Rattle.cell.specs.Answer.{answerOf, valuesOf}
+use Rattle.cell.specs.Cell.{Result, stopped, written, structureFor, structureWith, structureBytes, writeBlocks, writeHeaded, writeSheet}
+use Rattle.cell.specs.Answer.{answerOf}
 use Rattle.cell.proofs.ResultLaws.{check-on, check-off}
 use Rattle.records.proofs.RecordLaws.{length-record}
-use Rattle.write.specs.declared.HeadMeasured.{HeadMeasured}
-use Rattle.write.specs.declared.HeadMeasured.the-variants as H
-use Rattle.write.specs.declared.Totals.{Totals}
-use Rattle.write.specs.declared.Totals.the-variants as T
-use Rattle.write.specs.Walk.{headBytes, headMeasured, totalsFrom}
-use Rattle.write.specs.Writer.{MeasuresCell}
+use Rattle.walk.specs.declared.HeadMeasured.{HeadMeasured}
+use Rattle.walk.specs.declared.HeadMeasured.the-variants as H
+use Rattle.walk.specs.declared.Totals.{Totals}
+use Rattle.walk.specs.declared.Totals.the-variants as T
+use Rattle.walk.specs.Walk.{headBytes, headMeasured, totalsFrom}
 
 head-same : (h : Head) → B.headBytes (h .stamps) (padded (h .name)) ≡ headBytes h
 unfolding headBytes B.headBytes
@@ -128,27 +119,3 @@ module _ (policy : GdsRoundingPolicy) (d : Float) (s : List ℕ) where
           go r y (goes h) f =
               let l : n ≡ length (headBytes h) = cc in
               ap (λ (x : ℕ). A.Accepted (x + m + 4) k w) l ∙ go-with h (writeBlocks policy d 0 (elementBlocks s)) m k w (sym g ∙ j)
-
--- ---- the caller's checks: policy and database unit (v is their answer), size of the sheet
-
-module _ (n : ℕ) (d : Float) (s : List ℕ) (v : CallerPolicy) (f : callerOf v ≡ callerPolicy n d) where
-  pub caller-stop : (r : Refusal) → v ≡ Caller.Refused r → A.Refused r 0 ≡ answerOf (cellStructure n d s)
-  unfolding cellStructure afterCaller
-  caller-stop r e = ap (λ (m : Made GdsRoundingPolicy). answerOf (afterCaller m d s)) (sym (ap callerOf e) ∙ f)
-
-  module _ (policy : GdsRoundingPolicy) (e : v ≡ Caller.With policy) where
-    called : afterCaller (pure policy) d s ≡ cellStructure n d s
-    unfolding cellStructure
-    called = ap (λ (m : Made GdsRoundingPolicy). afterCaller m d s) (sym (ap callerOf e) ∙ f)
-
-    pub size-stop : maxSheetLength < length s → A.Refused R.SheetSize 0 ≡ answerOf (cellStructure n d s)
-    unfolding afterCaller
-    size-stop h = ap answerOf (sym (check-off (leb (length s) maxSheetLength) R.SheetSize _ (lt-leb (length s) maxSheetLength h)) ∙ called)
-
-    pub cell-is : length s ≤ maxSheetLength → answerOf (writeSheet policy d s) ≡ answerOf (cellStructure n d s)
-    unfolding afterCaller
-    cell-is h = ap answerOf (sym (check-on (leb (length s) maxSheetLength) R.SheetSize _ (le-leb (length s) maxSheetLength h)) ∙ called)
-
--- its values are what is promised
-pub measures : {n : ℕ} {d : Float} {s : List ℕ} {a : Answer} → a ≡ answerOf (cellStructure n d s) → MeasuresCell n d s (valuesOf a)
-measures e = record { answer = ap valuesOf e }

@@ -1,8 +1,8 @@
--- `write::greater_error` meets its contract. Assumes nothing.
+-- `walk::greater_error` meets its contract. Assumes nothing.
 use mathlib.Core.Bool.{true, false}
-use Rattle.write.proofs.BlocksLaws.{greatest-nothing, greatest-stands}
-use Rattle.write.proofs.greater_error.Statement.{statement}
-use Rattle.write.proofs.greater_error.Tie as tie
+use Rattle.walk.proofs.BlocksLaws.{greatest-nothing, greatest-stands}
+use Rattle.walk.proofs.greater_error.Statement.{statement}
+use Rattle.walk.proofs.greater_error.Tie as tie
 
 returns : tie.Need-returns
 returns c = greatest-nothing (c .before .before .args .g) (c .before .before .args .entry) (c .if1 .taken)

@@ -1,8 +1,8 @@
--- `write::measure_head` meets its contract: form, stamps, name, in this order. Assumes nothing.
+-- `walk::measure_head` meets its contract: form, stamps, name, in this order. Assumes nothing.
 use borrow.Author.Needs.{needs}
-use Rattle.write.proofs.HeadLaws.{head-ill, head-in, stamps-stop, name-stop, head-through, head-small}
-use Rattle.write.proofs.measure_head.Statement.{statement}
-use Rattle.write.proofs.measure_head.Tie as tie
+use Rattle.walk.proofs.HeadLaws.{head-ill, head-in, stamps-stop, name-stop, head-through, head-small}
+use Rattle.walk.proofs.measure_head.Statement.{statement}
+use Rattle.walk.proofs.measure_head.Tie as tie
 
 head-of-requires : tie.Need-head-of-requires
 head-of-requires c κs = search needs

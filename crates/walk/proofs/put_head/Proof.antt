@@ -3,9 +3,9 @@ use mathlib.Core.Path.{ap}
 use native.Mathlib.Omega.{arith}
 use borrow.Author.Needs.{needs}
 use lib.ListN.{length}
-use Rattle.write.proofs.PutHeadLaws.{head-room, stamps-length, head-put}
-use Rattle.write.proofs.put_head.Statement.{statement}
-use Rattle.write.proofs.put_head.Tie as tie
+use Rattle.walk.proofs.PutHeadLaws.{head-room, stamps-length, head-put}
+use Rattle.walk.proofs.put_head.Statement.{statement}
+use Rattle.walk.proofs.put_head.Tie as tie
 
 cast-put-head-at : tie.Need-cast-put-head-at
 cast-put-head-at c = search needs

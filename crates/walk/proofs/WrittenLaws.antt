@@ -1,0 +1,84 @@
+-- A written sheet taken apart, and how many entries it has. Assumes nothing.
+use mathlib.Core.Path.{_≡_, refl, ap, _∙_}
+use mathlib.Core.Bool.{Bool, true, false}
+use mathlib.Core.Option.{Option, none, some}
+use mathlib.Core.List.{List, [], _∷_}
+use Prim.Native.Nat.{ℕ, suc, _-_, _≤_}
+use native.Mathlib.Omega.{arith}
+use lib.Dec.{T}
+use lib.ListN.{length, length-append}
+use lib.Ieee.{Float}
+use Rattle.refusal.specs.declared.Refusal.{Refusal}
+use Rattle.conversion.specs.declared.GdsRoundingPolicy.{GdsRoundingPolicy}
+use Rattle.conversion.specs.declared.Deviation.{Deviation}
+use Rattle.conversion.specs.declared.Entry.{Entry}
+use Rattle.conversion.specs.Entry.{entryOf}
+use Rattle.sheet.specs.Element.{Head, kindOf, headOf}
+use Rattle.sheet.specs.Blocks.{pairCount, pairsFit, blockOf}
+use Rattle.sheet.specs.Cell.{elementBlocks}
+use Rattle.stream.specs.Structure.{Said, Structure}
+use Rattle.cell.specs.declared.Answer.the-variants as A
+use Rattle.cell.specs.Stamps.{stampsFit}
+use Rattle.cell.specs.Names.{isName}
+use Rattle.cell.specs.Cell.{Result, stopped, written, check, writeBlocks, structureFor, structureWith, writeHeaded, writeSheet}
+use Rattle.walk.proofs.PairLaws.{pairs-count, length-blocks}
+use Rattle.walk.proofs.WalkLaws.{split}
+
+-- what is written has passed each check on its way
+pub check-passed : {A : Type 0} (t : Bool) (r : Refusal) (x : Result A) {a : A} {es : List Entry} → check t r x ≡ written a es → T t × (x ≡ written a es)
+check-passed true r x e = (tt, e)
+check-passed false r x e = let z : _≡_ {A = ℕ} 0 1 = cc in absurd (omega arith)
+
+pub record Sheet (policy : GdsRoundingPolicy) (d : Float) (sheet : List ℕ) (s : Structure) (es : List Entry) : Type 0 where
+  pub pairs : T (pairsFit sheet)
+  pub head : Head
+  pub held : headOf (blockOf sheet 0) ≡ some head
+  pub name : T (isName (head .name))
+  pub elements : List Said
+  pub writes : writeBlocks policy d 0 (elementBlocks sheet) ≡ written elements es
+  pub structure : s ≡ structureFor head elements
+
+pub sheet-split : (policy : GdsRoundingPolicy) (d : Float) (sheet : List ℕ) (s : Structure) (es : List Entry) → writeSheet policy d sheet ≡ written s es → Sheet policy d sheet s es
+unfolding writeSheet writeHeaded
+sheet-split policy d sheet s es w =
+    let p = check-passed (pairsFit sheet) _ _ w in
+    by-head (p .0) (headOf (blockOf sheet 0)) refl (p .1)
+  where
+    by-walk : T (pairsFit sheet) → (h : Head) → headOf (blockOf sheet 0) ≡ some h → T (isName (h .name)) → (x : Result (List Said)) → writeBlocks policy d 0 (elementBlocks sheet) ≡ x
+        → structureWith h x ≡ written s es → Sheet policy d sheet s es
+    by-walk p h e n (stopped r k) f g = let z : _≡_ {A = ℕ} 0 1 = cc in absurd (omega arith)
+    by-walk p h e n (written ws fs) f g =
+        let i : fs ≡ es = cc in
+        record { pairs = p; head = h; held = e; name = n; elements = ws; writes = f ∙ ap (written ws) i; structure = cc }
+
+    by-head : T (pairsFit sheet) → (x : Option Head) → headOf (blockOf sheet 0) ≡ x → writeHeaded policy d sheet x ≡ written s es → Sheet policy d sheet s es
+    by-head p none e g = let z : _≡_ {A = ℕ} 0 1 = cc in absurd (omega arith)
+    by-head p (some h) e g =
+        let t = check-passed (stampsFit (h .stamps)) _ _ g in
+        let n = check-passed (isName (h .name)) _ _ (t .1) in
+        by-walk p h e (n .0) (writeBlocks policy d 0 (elementBlocks sheet)) refl (n .1)
+
+-- an element has at most one entry
+entry-one : (i k : ℕ) (vs : List Deviation) → length (entryOf i k vs) ≤ 1
+unfolding entryOf
+entry-one i k [] = omega arith
+entry-one i k (v ∷ vs) = omega arith
+
+walk-few : (policy : GdsRoundingPolicy) (d : Float) (i : ℕ) (bs : List (List ℕ)) (ws : List Said) (es : List Entry) → writeBlocks policy d i bs ≡ written ws es → length es ≤ length bs
+unfolding writeBlocks
+walk-few policy d i [] ws es w = let e : es ≡ [] = cc in let f = ap length e in omega arith
+walk-few policy d i (b ∷ bs) ws es w =
+    let s = split policy d i b bs ws es w in
+    let r = walk-few policy d (suc i) bs (s .rest) (s .others) (s .after) in
+    let o = entry-one i (kindOf (s .element .body)) (s .deviations) in
+    let l = ap length (s .entries) ∙ length-append (entryOf i (kindOf (s .element .body)) (s .deviations)) (s .others) in
+    omega arith
+
+-- so their bytes can be counted
+pub entries-few : (policy : GdsRoundingPolicy) (d : Float) (sheet : List ℕ) (s : Structure) (es : List Entry) → writeSheet policy d sheet ≡ written s es → length es ≤ 16384
+entries-few policy d sheet s es w =
+    let x = sheet-split policy d sheet s es w in
+    let f = walk-few policy d 0 (elementBlocks sheet) (x .elements) es (x .writes) in
+    let l = length-blocks (pairCount sheet - 1) 1 sheet in
+    let m = pairs-count sheet (x .pairs) .most in
+    omega arith
