@@ -6,7 +6,6 @@ use mathlib.Core.List.{List, [], _∷_}
 use Prim.Native.Nat.{ℕ, suc, _≤_}
 use native.Mathlib.Omega.{arith}
 use lib.Dec.{T, leb, leb→le, lit≤}
-use lib.ListN.{length}
 use lib.IntN.{ℤ}
 use lib.Ieee.{Float, eq}
 use lib.Ieee.Fits.{and-r}
@@ -23,19 +22,18 @@ use Rattle.conversion.specs.declared.Deviation.{Deviation}
 use Rattle.conversion.specs.Made.{Made, refused, made, after, need, _>>=_, _>>_}
 use Rattle.conversion.specs.Convert.{Spot, rounded, ranged, gridValue, databaseValue, convertPhysical, physicalValue, convertBy, convertUnit, arrayEndpoint}
 use Rattle.conversion.specs.Points.{writePoint, writePoints, writeLength}
-use Rattle.conversion.specs.Policy.{callerPolicy}
-use Rattle.conversion.proofs.PolicyLaws.{Caller, unnamed, noUnit, passes, caller}
 use Rattle.conversion.specs.Array.{physicalPoint, physicalSpacing, writePhysical, writeEndpoint, convertArray}
 use Rattle.sheet.specs.Element as S
 use Rattle.sheet.specs.Element.{Head, headOf, elementOf, kindOf}
 use Rattle.sheet.specs.Blocks.{pairsFit, blockOf}
 use Rattle.sheet.specs.Cell.{elementBlocks}
 use Rattle.stream.specs.Structure as D
-use Rattle.cell.specs.Limits.{maxSheetLength}
 use Rattle.cell.specs.Stamps.{stampsFit}
 use Rattle.cell.specs.Names.{isName}
 use Rattle.cell.specs.Write.{layerAndType, writeProperties, encodable, writeReal, writeMagnification, writeAngle, writeTransform, single, writeShape, writePolygon, writeNode, writePath, writeText, writeSref, writeAref, writeReference, writeBody, writeElement}
+use Rattle.cell.specs.Call.{checkedCall}
 use Rattle.cell.specs.Cell.{Result, stopped, written, writeOne, writeBlock, writeBlocks, structureWith, writeHeaded, writeSheet, afterCaller, cellStructure}
+use Rattle.cell.proofs.CallLaws.{Calling, unnamed, noUnit, tooLong, passes, calling}
 use Rattle.cell.proofs.ResultLaws.{Stops, check-stops}
 
 -- ---- steps
@@ -258,9 +256,10 @@ sheet-before policy d sheet = check-stops Before21 (pairsFit sheet) _ _ (λ f. l
 -- Measuring answers with a refusal other than 21 and 22.
 pub measured-before : (policy : ℕ) (d : Float) (sheet : List ℕ) → Stops Before21 (cellStructure policy d sheet)
 unfolding cellStructure afterCaller
-measured-before policy d sheet = go (callerPolicy policy d) (caller policy d)
+measured-before policy d sheet = go (checkedCall policy d sheet) (calling policy d sheet)
   where
-    go : (m : Made GdsRoundingPolicy) → Caller policy d m → Stops Before21 (afterCaller m d sheet)
+    go : (m : Made GdsRoundingPolicy) → Calling policy d sheet m → Stops Before21 (afterCaller m d sheet)
     go m (unnamed e) = lit≤ tt
     go m (noUnit rounding e never) = lit≤ tt
-    go m (passes rounding e u) = check-stops Before21 (leb (length sheet) maxSheetLength) _ _ (λ f. lit≤ tt) (λ l. sheet-before rounding d sheet)
+    go m (tooLong rounding e u l) = lit≤ tt
+    go m (passes at) = sheet-before (at .rounding) d sheet

@@ -3,7 +3,7 @@ use mathlib.Core.Path.{_≡_, refl, sym, ap, ap₂, _∙_, subst}
 use mathlib.Core.Bool.{Bool, cond}
 use mathlib.Core.Option.{Option, none, some}
 use mathlib.Core.List.{List, [], _∷_}
-use Prim.Native.Nat.{ℕ, zero, suc, _-_, _*_}
+use Prim.Native.Nat.{ℕ, suc, _-_, _*_}
 use native.Mathlib.Omega.{arith}
 use lib.Dec.{T, leb}
 use lib.ListN.{length, take, drop}
@@ -13,15 +13,14 @@ use lib.Ieee.Bits.{is-true as on}
 use lib.Ieee.Positive.{positive}
 use Rattle.big_endian.specs.Big.{Bytes}
 use Rattle.big_endian.specs.Buffer.{over}
-use Rattle.big_endian.proofs.BytesLaws.{take-bytes, drop-bytes}
 use Rattle.parsing.specs.All.{All, done, more}
 use Rattle.conversion.specs.declared.GdsRoundingPolicy.{GdsRoundingPolicy}
 use Rattle.conversion.specs.Made.{Made, refused, made}
-use Rattle.conversion.specs.Policy.{policyOf, callerPolicy}
-use Rattle.conversion.proofs.PolicyLaws.{Caller, unnamed, noUnit, passes, caller}
+use Rattle.conversion.specs.Policy.{policyOf}
 use Rattle.sheet.specs.Element.{Head, Element, kindOf, headOf, elementOf}
-use Rattle.sheet.specs.Blocks.{pairCount, lengthOf, offsetOf, pairsFit, blockOf, blocksFrom}
+use Rattle.sheet.specs.Blocks.{pairCount, pairsFit, blockOf}
 use Rattle.sheet.specs.Cell.{consTo, elementsOf, cellFrom, elementBlocks, cellOf}
+use Rattle.sheet.proofs.CountLaws.{block-bytes, blocks-bytes}
 use Rattle.sheet.proofs.FineLaws.{element-fine, head-fine}
 use Rattle.stream.specs.Structure.{Said, Structure}
 use Rattle.stream.specs.Drawn.{elementsDrawn, drawnOf}
@@ -29,9 +28,9 @@ use Rattle.stream.proofs.Fit.{FitElement, FitStructure}
 use Rattle.stream.proofs.StringLaws.{trimmed-padded}
 use Rattle.stream.proofs.BackLaws.{structureOf-back, structure-bytewise}
 use Rattle.cell.specs.declared.Answer.the-variants as A
-use Rattle.cell.specs.Limits.{maxSheetLength}
 use Rattle.cell.specs.Stamps.{stampsFit}
 use Rattle.cell.specs.Names.{isName}
+use Rattle.cell.specs.Call.{checkedCall}
 use Rattle.cell.specs.Write.{writeElement}
 use Rattle.cell.specs.Cell.{Result, stopped, written, writeOne, writeBlock, writeBlocks, structureFor, structureWith, writeHeaded, writeSheet, afterCaller, cellStructure, structureBytes, entryLength, fitting, writeCell, outAfter}
 use Rattle.cell.specs.Answer.{answerOf}
@@ -40,19 +39,9 @@ use Rattle.cell.specs.Draws as W
 use Rattle.cell.specs.Demand3.{Demand3}
 use Rattle.cell.specs.Edges.{cellEdges, drawnPoints, KeepsEdges, EdgesNeverCross}
 use Rattle.cell.proofs.ResultLaws.{Whenever, whenever-map, check-whenever}
+use Rattle.cell.proofs.CallLaws.{Calling, unnamed, noUnit, tooLong, passes, calling}
 use Rattle.cell.proofs.Taken.{each-append, each-length, TakenPoint, taken-order}
 use Rattle.cell.proofs.ElementLaws.{name-even, element-written}
-
--- ---- blocks are bytes
-
-block-bytes : (s : List ℕ) (k : ℕ) → Bytes s → Bytes (blockOf s k)
-unfolding blockOf
-block-bytes s k h = take-bytes (lengthOf s k) _ (drop-bytes (offsetOf s k) s h)
-
-blocks-bytes : (n k : ℕ) (s : List ℕ) → Bytes s → All Bytes (blocksFrom n k s)
-unfolding blocksFrom
-blocks-bytes zero k s h = done
-blocks-bytes (suc n) k s h = more (block-bytes s k h) (blocks-bytes n (suc k) s h)
 
 module _ (policy : GdsRoundingPolicy) (d : Float) (fd : T (fits binary64 d)) (pd : T (positive d)) where
   -- ---- the elements
@@ -134,14 +123,13 @@ module _ (policy : ℕ) (d : Float) (sheet : List ℕ) (fd : T (fits binary64 d)
 
   pub measured-drawing : Whenever (Drawing policy d sheet) (cellStructure policy d sheet)
   unfolding cellStructure afterCaller
-  measured-drawing = go (callerPolicy policy d) (caller policy d)
+  measured-drawing = go (checkedCall policy d sheet) (calling policy d sheet)
     where
-      go : (m : Made GdsRoundingPolicy) → Caller policy d m → Whenever (Drawing policy d sheet) (afterCaller m d sheet)
+      go : (m : Made GdsRoundingPolicy) → Calling policy d sheet m → Whenever (Drawing policy d sheet) (afterCaller m d sheet)
       go m (unnamed e) = tt
       go m (noUnit rounding e never) = tt
-      go m (passes rounding e pd) =
-          check-whenever (Drawing policy d sheet) (leb (length sheet) maxSheetLength) _ _
-          (λ l. whenever-map (sound-drawing rounding e pd) (writeSheet rounding d sheet) (sheet-sound rounding d fd pd sheet all))
+      go m (tooLong rounding e pd l) = tt
+      go m (passes at) = whenever-map (sound-drawing (at .rounding) (at .named) (at .unit)) (writeSheet (at .rounding) d sheet) (sheet-sound (at .rounding) d fd (at .unit) sheet all)
 
   pub written-drawing : (out report : ℕ) → Whenever (Drawing policy d sheet) (writeCell policy d sheet out report)
   unfolding writeCell fitting

@@ -3,6 +3,7 @@ pub mod Taken
 pub mod PartLaws
 pub mod ElementLaws
 pub mod ResultLaws
+pub mod CallLaws
 pub mod DrawsLaws
 pub mod WalkLaws
 pub mod OrderLaws

@@ -18,20 +18,20 @@ use Rattle.conversion.specs.declared.GdsRoundingPolicy.{GdsRoundingPolicy}
 use Rattle.conversion.specs.declared.Entry.{Entry}
 use Rattle.conversion.specs.Made.{Made, refused, made}
 use Rattle.conversion.specs.Entry.{entryOf}
-use Rattle.conversion.specs.Policy.{callerPolicy}
-use Rattle.conversion.proofs.PolicyLaws.{caller-unnamed, caller-with, caller-unit, Caller, unnamed, noUnit, passes, caller}
+use Rattle.conversion.proofs.PolicyLaws.{caller-unnamed, caller-with, caller-unit}
 use Rattle.sheet.specs.Element.{Head, Element, kindOf, headOf, elementOf}
 use Rattle.sheet.specs.Blocks.{pairsFit, blockOf}
 use Rattle.sheet.specs.Cell.{elementBlocks}
 use Rattle.stream.specs.Structure.{Said, Structure}
-use Rattle.cell.specs.Limits.{maxSheetLength}
 use Rattle.cell.specs.Stamps.{stampsFit}
 use Rattle.cell.specs.Names.{isName}
+use Rattle.cell.specs.Call.{checkedCall}
 use Rattle.cell.specs.Write.{writeElement}
 use Rattle.cell.specs.Cell.{Result, stopped, written, inFront, writeOne, writeBlock, writeBlocks, structureWith, writeHeaded, writeSheet, afterCaller, cellStructure, structureBytes, entryLength, fitting, writeCell}
 use Rattle.cell.specs.Order.{Accepted, Called, Headed, Reached, First, Ordered}
 use Rattle.cell.specs.Order as O
 use Rattle.cell.proofs.ResultLaws.{Stops, check-stops, check-on, check-off}
+use Rattle.cell.proofs.CallLaws.{call-refused, call-long, call-passed, Calling, unnamed, noUnit, tooLong, passes, calling}
 use Rattle.cell.proofs.WalkLaws.{walk-ill, walk-refused, walk-made}
 
 -- a test that fails
@@ -99,15 +99,13 @@ module _ (policy : ℕ) (d : Float) (sheet : List ℕ) (out report : ℕ) where
 
   measured-first : Firsts (cellStructure policy d sheet)
   unfolding cellStructure afterCaller writeSheet
-  measured-first = go (callerPolicy policy d) (caller policy d)
+  measured-first = go (checkedCall policy d sheet) (calling policy d sheet)
     where
-      go : (m : Made GdsRoundingPolicy) → Caller policy d m → Firsts (afterCaller m d sheet)
+      go : (m : Made GdsRoundingPolicy) → Calling policy d sheet m → Firsts (afterCaller m d sheet)
       go m (unnamed e) = O.policyAbove3 e
       go m (noUnit rounding e never) = O.unitNotPositive rounding e never
-      go m (passes rounding e u) =
-          check-stops _ (leb (length sheet) maxSheetLength) R.SheetSize _ (λ no. O.sheetTooLong rounding e u (not-leb (length sheet) maxSheetLength no))
-          (λ l. let at : Called policy d sheet = record { rounding = rounding; named = e; unit = u; size = leb→le (length sheet) maxSheetLength l } in
-          check-stops _ (pairsFit sheet) R.Pairs _ (λ no. O.pairsIllFormed at no) (λ p. headed-first at p (headOf (blockOf sheet 0)) refl))
+      go m (tooLong rounding e u l) = O.sheetTooLong rounding e u l
+      go m (passes at) = check-stops _ (pairsFit sheet) R.Pairs _ (λ no. O.pairsIllFormed at no) (λ p. headed-first at p (headOf (blockOf sheet 0)) refl)
 
   written-first : Firsts (writeCell policy d sheet out report)
   unfolding writeCell fitting
@@ -126,9 +124,7 @@ module _ (policy : ℕ) (d : Float) (sheet : List ℕ) (out report : ℕ) where
     -- 1 to 3 have passed: the rest is the cell from its 4 on
     called-is : cellStructure policy d sheet ≡ writeSheet (at .rounding) d sheet
     unfolding cellStructure afterCaller
-    called-is =
-        ap (λ (m : Made GdsRoundingPolicy). afterCaller m d sheet) (caller-with policy d (at .rounding) (at .named) (on (positive d) (at .unit)))
-        ∙ check-on (leb (length sheet) maxSheetLength) _ _ (le-leb (length sheet) maxSheetLength (at .size))
+    called-is = ap (λ (m : Made GdsRoundingPolicy). afterCaller m d sheet) (call-passed policy d sheet at)
 
     -- and 4
     paired-is : (x : Option Head) → T (pairsFit sheet) → headOf (blockOf sheet 0) ≡ x → cellStructure policy d sheet ≡ writeHeaded (at .rounding) d sheet x
@@ -162,19 +158,21 @@ module _ (policy : ℕ) (d : Float) (sheet : List ℕ) (out report : ℕ) where
       ∙ ap (structureWith (at .headed .head)) (past rounding 0 (length (at .before)) (at .before) (b ∷ at .after) r (suc (length (at .before))) (omega arith) (at .accepted) e)
       ∙ ap (stopped r) (sym (at .block))
 
+  -- what the caller's checks refuse is a refusal of measuring
+  call-stops : (r : Refusal) → checkedCall policy d sheet ≡ refused r → cellStructure policy d sheet ≡ stopped r 0
+  unfolding cellStructure afterCaller
+  call-stops r e = ap (λ (m : Made GdsRoundingPolicy). afterCaller m d sheet) e
+
   -- a refusal of measuring is one of writing
   stops : (r : Refusal) (k : ℕ) → cellStructure policy d sheet ≡ stopped r k → writeCell policy d sheet out report ≡ stopped r k
   unfolding writeCell fitting
   stops r k e = ap (fitting out report) e
 
   first-is : (r : Refusal) (k : ℕ) → First policy d sheet out report r k → writeCell policy d sheet out report ≡ stopped r k
-  unfolding writeCell fitting cellStructure afterCaller writeSheet writeHeaded
-  first-is r k (O.policyAbove3 e) = stops r k (ap (λ (m : Made GdsRoundingPolicy). afterCaller m d sheet) (caller-unnamed policy d e))
-  first-is r k (O.unitNotPositive rounding e never) =
-      stops r k (ap (λ (m : Made GdsRoundingPolicy). afterCaller m d sheet) (caller-unit policy d rounding e (off (positive d) never)))
-  first-is r k (O.sheetTooLong rounding e u l) =
-      stops r k (ap (λ (m : Made GdsRoundingPolicy). afterCaller m d sheet) (caller-with policy d rounding e (on (positive d) u))
-      ∙ check-off (leb (length sheet) maxSheetLength) _ _ (lt-leb (length sheet) maxSheetLength l))
+  unfolding writeCell fitting writeSheet writeHeaded
+  first-is r k (O.policyAbove3 e) = stops r k (call-stops r (call-refused policy d sheet r (caller-unnamed policy d e)))
+  first-is r k (O.unitNotPositive rounding e never) = stops r k (call-stops r (call-refused policy d sheet r (caller-unit policy d rounding e (off (positive d) never))))
+  first-is r k (O.sheetTooLong rounding e u l) = stops r k (call-stops r (call-long policy d sheet rounding (caller-with policy d rounding e (on (positive d) u)) l))
   first-is r k (O.pairsIllFormed at never) = stops r k (called-is at ∙ check-off (pairsFit sheet) _ _ (off (pairsFit sheet) never))
   first-is r k (O.headIllFormed at p e) = stops r k (paired-is at none p e)
   first-is r k (O.headStamps h at p e never) = stops r k (paired-is at (some h) p e ∙ check-off (stampsFit (h .stamps)) _ _ (off (stampsFit (h .stamps)) never))

@@ -14,7 +14,6 @@ use Rattle.conversion.specs.declared.GdsRoundingPolicy.{GdsRoundingPolicy}
 use Rattle.conversion.specs.declared.Entry.{Entry}
 use Rattle.conversion.specs.Entry.{entryOf, reportBytes}
 use Rattle.conversion.specs.Made.{Made, refused, made}
-use Rattle.conversion.specs.Policy.{callerPolicy}
 use Rattle.sheet.specs.Element.{Head, Element, kindOf, headOf, elementOf}
 use Rattle.sheet.specs.Blocks.{pairsFit, blockOf}
 use Rattle.sheet.specs.Cell.{elementBlocks}
@@ -22,7 +21,7 @@ use Rattle.stream.specs.Strings.{padded}
 use Rattle.stream.specs.Structure.{Said, Structure}
 use Rattle.stream.specs.Record.{streamBytes}
 use Rattle.stream.specs.Records.{structureRecords}
-use Rattle.cell.specs.Limits.{maxSheetLength}
+use Rattle.cell.specs.Call.{checkedCall}
 use Rattle.cell.specs.Stamps.{stampsFit}
 use Rattle.cell.specs.Names.{isName}
 use Rattle.cell.specs.Write.{writeElement}
@@ -83,15 +82,15 @@ writeHeaded policy d sheet (some h) =
 unfoldable pub writeSheet : GdsRoundingPolicy → Float → List ℕ → Result Structure
 writeSheet policy d sheet = check (pairsFit sheet) R.Pairs (writeHeaded policy d sheet (headOf (blockOf sheet 0)))
 
--- ---- all that is measured: "Caller, first: 1 policy above 3; 2 d not finite and positive; 3 sheet over 16,777,216 bytes."
+-- ---- all that is measured
 
--- what follows 1 and 2, or what they refuse
+-- what follows 1 to 3, or what they refuse
 unfoldable pub afterCaller : Made GdsRoundingPolicy → Float → List ℕ → Result Structure
 afterCaller (refused r) d sheet = stopped r 0
-afterCaller (made policy vs) d sheet = check (leb (length sheet) maxSheetLength) R.SheetSize (writeSheet policy d sheet)
+afterCaller (made policy vs) d sheet = writeSheet policy d sheet
 
 unfoldable pub cellStructure : ℕ → Float → List ℕ → Result Structure
-cellStructure policy d sheet = afterCaller (callerPolicy policy d) d sheet
+cellStructure policy d sheet = afterCaller (checkedCall policy d sheet) d sheet
 
 -- ---- writing: "Caller, last: 21 output too short; 22 report too short."
 

@@ -2,6 +2,7 @@
 pub mod Limits
 pub mod Stamps
 pub mod Names
+pub mod Call
 pub mod Write
 pub mod Cell
 pub mod Answer

@@ -78,10 +78,14 @@ entryBytes e =
     ++ bytesOf 4 (ofZ w32 (e .database))
     ++ bytesOf 8 (toBits binary64 (e .error))
 
--- the entries' bytes, one after the other
+-- the entries' bytes, one after the other, each after the same lead
+abbrev pub reportWith : List ℕ → List Entry → List ℕ
+reportWith lead [] = []
+reportWith lead (e ∷ es) = (lead ++ entryBytes e) ++ reportWith lead es
+
+-- a cell's entries have none
 abbrev pub reportBytes : List Entry → List ℕ
-reportBytes [] = []
-reportBytes (e ∷ es) = entryBytes e ++ reportBytes es
+reportBytes es = reportWith [] es
 
 -- the largest of x and the entries' errors
 unfoldable pub greatestFrom : Float → List Entry → Float

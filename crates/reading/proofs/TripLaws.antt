@@ -13,11 +13,11 @@ use Rattle.binary64.specs.Value.{one64}
 use Rattle.refusal.specs.declared.Refusal.the-variants as R
 use Rattle.parsing.specs.Parse.{Outcome, refused, given}
 use Rattle.parsing.specs.All.{All, done, more}
+use Rattle.conversion.specs.declared.GdsRoundingPolicy.{GdsRoundingPolicy}
 use Rattle.conversion.specs.declared.GdsRoundingPolicy.the-variants.{Nearest}
 use Rattle.conversion.specs.Entry.{entryOf}
 use Rattle.conversion.specs.Made.{Made}
-use Rattle.conversion.specs.Made as M
-use Rattle.conversion.specs.Policy.{policyOf, callerPolicy}
+use Rattle.conversion.specs.Policy.{policyOf}
 use Rattle.sheet.specs.Element as S
 use Rattle.sheet.specs.Element.{kindOf, headOf, elementOf}
 use Rattle.sheet.specs.Blocks.{maxPairs, blockOf}
@@ -40,6 +40,7 @@ use Rattle.cell.specs.Limits.{maxSheetLength}
 use Rattle.cell.specs.Names.{isName}
 use Rattle.cell.specs.Stamps.{stampsFit}
 use Rattle.cell.specs.Cell.{Result, written, check, inFront, writeOne, writeBlock, writeBlocks, structureWith, writeHeaded, writeSheet, afterCaller, cellStructure, structureBytes}
+use Rattle.cell.proofs.CallLaws.{call-passed}
 use Rattle.cell.proofs.ElementLaws.{element-written}
 use Rattle.reading.specs.Limits.{recordLimit, sheetLimits}
 use Rattle.reading.specs.Cell.{bodyRead, elementRead, elementsRead, cellRead}
@@ -130,9 +131,9 @@ module _ (s : Structure) (h : KeptStructure s) (short : length (cellSheet (cellR
       ∙ ap (λ (n : List ℕ). written (record { stamps = s .stamps; name = n; elements = c .puts }) []) (padded-unpadded (s .name) (h .name .even .even))
 
   measured : cellStructure nearest one64 sheet ≡ written canonical []
-  unfolding cellStructure afterCaller callerPolicy policyOf M.need M._>>_ M._>>=_ writeSheet
+  unfolding cellStructure afterCaller policyOf writeSheet
   measured =
-      ap (λ (t : Bool). check t R.SheetSize (writeSheet Nearest one64 sheet)) (le-leb (length sheet) maxSheetLength short)
+      ap (λ (m : Made GdsRoundingPolicy). afterCaller m one64 sheet) (call-passed nearest one64 sheet (record { rounding = Nearest; named = refl; unit = tt; size = short }))
       ∙ ap (λ (t : Bool). check t R.Pairs (writeHeaded Nearest one64 sheet (headOf (blockOf sheet 0)))) (pairs-held (cellRead s) fine)
       ∙ ap (writeHeaded Nearest one64 sheet) head-held ∙ headed
 

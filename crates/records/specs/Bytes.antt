@@ -7,7 +7,7 @@ use Prim.Native.Nat.{ℕ, _+_}
 use lib.ListN.{length}
 use Rattle.big_endian.specs.Big.{bytesOf}
 use Rattle.big_endian.specs.Buffer.{WroteAt}
-use Rattle.stream.specs.Record.{Rec, recordBytes}
+use Rattle.stream.specs.Record.{Rec, twoByte, recordBytes}
 
 -- a record's head: its length, code and data type
 abbrev pub headBytes : ℕ → ℕ → ℕ → List ℕ
@@ -16,6 +16,10 @@ headBytes len code dataType = bytesOf 2 len ++ code ∷ dataType ∷ []
 -- a record of one number of k bytes
 abbrev pub sized : ℕ → ℕ → ℕ → ℕ → Rec
 sized code dataType k v = record { code = code; dataType = dataType; content = bytesOf k v }
+
+-- a record of two stamps, by the bytes of their numbers
+abbrev pub stamped : ℕ → List ℕ → Rec
+stamped code bs = record { code = code; dataType = twoByte; content = bs }
 
 -- n bytes `bs` stand from `at` to `to`, and every other byte of the output is as it was
 pub record Placed (bs : List ℕ) (n : ℕ) (before after : List ℕ) (at to : ℕ) : Type 0 where

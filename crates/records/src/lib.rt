@@ -1,12 +1,13 @@
 // Records into the lent output (write/mod.rs: `record_header`, `write_i32_record`, `write_string_with_record_to_file`).
 // Each writer puts one record at a place and answers the place after it; every other byte stays.
+ghost use mathlib.Core.Path.{_≡_};
 ghost use mathlib.Core.Bool.{cond};
 ghost use Prim.Native.Nat.{_+_, _%_, _≤_};
 ghost use lib.ListN.{length};
 ghost use Rattle.big_endian.specs.Big.{bytesOf};
 ghost use Rattle.stream.specs.Records.{emptyRecord, wordRecord, longRecord, realRecord, stringRecord, colrowRecord};
 ghost use Rattle.stream.specs.Strings.{padded};
-ghost use Rattle.records.specs.Bytes.{headBytes, sized, Placed, Recorded, optBytes, optionOf};
+ghost use Rattle.records.specs.Bytes.{headBytes, sized, stamped, Placed, Recorded, optBytes, optionOf};
 
 // The data types of the manual.
 pub const NO_DATA: u8 = 0;
@@ -156,6 +157,16 @@ pub fn put_string_at(out: &mut [u8], at: usize, code: u8, s: &[u8]) -> usize
     let a = put_head_at(out, at, (5 + n) as u16, code, ASCII_STRING);
     let b = put_bytes_at(out, a, s);
     big_endian::put_u8_at(out, b, 0)
+}
+
+// A record of two stamps, from the bytes of their twelve 2-byte numbers.
+pub fn put_stamps_at(out: &mut [u8], at: usize, code: u8, stamps: &[u8]) -> usize
+    requires { ⌜ length (now stamps) ≡ 24 ⌝ }
+    requires { ⌜ at + 28 ≤ length (now out) ⌝ }
+    ensures { λ r. ⌜ Recorded (stamped code (now (stamps .entry))) 28 (now (out .entry)) (now (out .exit)) at r ⌝ }
+{
+    let a = put_head_at(out, at, 28, code, TWO_BYTE);
+    put_bytes_at(out, a, stamps)
 }
 
 // A record of one 2-byte number, where it is there.

@@ -2,5 +2,6 @@
 pub mod Fine
 pub mod FineLaws
 pub mod PairLaws
+pub mod CountLaws
 pub mod BlocksLaws
 pub mod EncodeLaws

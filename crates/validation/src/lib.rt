@@ -1,11 +1,19 @@
-// Names and stamps (write/validation.rs, timestamp.rs).
+// The caller's first checks; names and stamps (write/validation.rs, timestamp.rs).
+use conversion::CallerPolicy;
+use conversion::GdsRoundingPolicy;
+use refusal::Refusal;
 ghost use mathlib.Core.Path.{_≡_};
 ghost use Prim.Native.Nat.{_+_, _*_, _≤_};
 ghost use lib.ListN.{length};
+ghost use Rattle.cell.specs.Call.{checkedCall};
 ghost use Rattle.cell.specs.Limits as Limits;
 ghost use Rattle.cell.specs.Names as Names;
 ghost use Rattle.cell.specs.Stamps as Stamps;
 ghost use Rattle.forms.specs.Place.{wordsFrom};
+ghost use Rattle.validation.specs.Call.{callOf};
+
+// The longest sheet.
+const MAX_SHEET_LENGTH: usize = 16777216;
 
 // The longest structure name.
 const MAX_NAME_LENGTH: usize = 32;
@@ -19,6 +27,29 @@ const STAMP_NUMBERS: usize = 12;
 const SECOND_STAMP: usize = 6;
 
 const NUMBER: usize = 2;
+
+// A caller's first checks: a refusal, or the policy.
+pub enum Called {
+    Refused { refusal: Refusal },
+    Passed { rounding: GdsRoundingPolicy },
+}
+
+// The policy's number and the database unit, then the size of the sheet.
+pub fn check_call(policy: u8, d: f64, sheet: &[u8]) -> Called
+    ensures { λ r. ⌜ callOf r ≡ checkedCall policy d (now (sheet .entry)) ⌝ }
+{
+    match conversion::caller_policy(policy, d) {
+        CallerPolicy::Refused { refusal } => Called::Refused { refusal },
+        CallerPolicy::With { policy: rounding } => {
+            if sheet.len() > MAX_SHEET_LENGTH {
+                return Called::Refused {
+                    refusal: Refusal::SheetSize,
+                };
+            }
+            Called::Passed { rounding }
+        }
+    }
+}
 
 // Whether n is from lo to hi.
 pub fn within(lo: usize, n: usize, hi: usize) -> bool

@@ -81,7 +81,7 @@ module _ (n k : ℕ) (g : Float) (out report out′ report′ : List ℕ) where
   by-buffers (written s es) e o p =
       let a : n ≡ length (structureBytes s) = cc in
       let b : k ≡ length es = cc in
-      let l = length-report es in
+      let l : length (reportBytes es) ≡ length es * 33 = length-report [] es in
       let u : take n out′ ≡ structureBytes s = ap (take n) o ∙ first (structureBytes s) out n a in
       let v : take (33 * k) report′ ≡ reportBytes es = ap (take (33 * k)) p ∙ first (reportBytes es) report (33 * k) (omega arith) in
       cc

@@ -28,7 +28,7 @@ use Rattle.elements.proofs.BlockLaws.{Met, met}
 use Rattle.walk.specs.declared.Totals.{Totals}
 use Rattle.walk.specs.declared.Totals.the-variants as T
 use Rattle.walk.specs.Walk.{totalsFrom}
-use Rattle.walk.proofs.PairLaws.{blocks-turn, blocks-end}
+use Rattle.sheet.proofs.CountLaws.{blocks-turn, blocks-end}
 use Rattle.walk.proofs.WalkLaws.{totals-stop, totals-turn}
 
 -- ---- an entry

@@ -1,5 +1,4 @@
--- Laws of the pairs and blocks, of both walks over them, of the head, and of the structure as a whole.
-pub mod PairLaws
+-- Laws of both walks over the blocks, of the head, and of the structure as a whole.
 pub mod WalkLaws
 pub mod BlocksLaws
 pub mod HeadLaws

@@ -4,22 +4,20 @@ use mathlib.Core.List.{List, [], _∷_, _++_}
 use Prim.Native.Nat.{ℕ, zero, suc, _+_, _-_, _*_, _/_, _%_, _≤_, _<_}
 use native.Mathlib.Nat.{add-sub-cancel-left}
 use native.Mathlib.Omega.{arith}
-use lib.ListN.{length, getD, take, drop, length-take}
+use lib.ListN.{length, getD, take, drop, length-take, length-drop}
 use Rattle.big_endian.specs.Big.{Bytes, bytesOf}
 use Rattle.big_endian.specs.Buffer.{WroteAt}
 use Rattle.big_endian.proofs.PlaceLaws.{two, number-two}
 use Rattle.big_endian.proofs.BufferLaws.{then-at, same-bytes}
-use Rattle.stream.specs.Record.{BGNSTR, STRNAME, twoByte, recordBytes}
-use Rattle.stream.specs.Records.{wordsBytes, stampsRecord, stringRecord}
+use Rattle.stream.specs.Record.{BGNSTR, STRNAME, recordBytes}
+use Rattle.stream.specs.Records.{wordsBytes, stringRecord}
 use Rattle.stream.specs.Strings.{padded}
-use Rattle.records.specs.Bytes as R
-use Rattle.records.specs.Bytes.{Placed, Recorded}
-use Rattle.records.proofs.RecordLaws.{record-at}
+use Rattle.records.specs.Bytes.{stamped, Recorded}
 use Rattle.forms.specs.declared.HeadPlaces.{HeadPlaces}
 use Rattle.forms.specs.Place.{valuesFrom, wordsFrom, stringAt}
 use Rattle.forms.specs.Forms.{headAt}
 use Rattle.walk.specs.Walk.{headBytes}
-use Rattle.walk.proofs.HeadLaws.{length-words, head-length, words-bytes}
+use Rattle.walk.proofs.HeadLaws.{length-words, head-length}
 
 -- a number of two bytes, as its bytes
 word-back : (x y : ℕ) → x < 256 → y < 256 → bytesOf 2 (x * 256 + y) ≡ x ∷ y ∷ []
@@ -47,22 +45,18 @@ pub head-room : (b : List ℕ) (s : HeadPlaces) (n : ℕ) → length (headBytes 
 unfolding headAt
 head-room b s n l = subst (λ (m : ℕ). m ≤ n) (head-length (headAt b s) (length-words 12 b (s .stamps))) l
 
--- the two records
-pub head-put : (b : List ℕ) (s : HeadPlaces) {name d c1 c2 c3 : List ℕ} {i j k r1 r2 r3 : ℕ} → Bytes b → s .stamps + 24 ≤ length b → name ≡ stringAt b (s .name)
-    → Placed (R.headBytes 28 BGNSTR twoByte) i d c1 0 r1
-    → Placed (take (s .stamps + 24 - s .stamps) (drop (s .stamps) b)) j c1 c2 r1 r2
-    → Recorded (stringRecord STRNAME (padded name)) k c2 c3 r2 r3
-    → WroteAt (headBytes (headAt b s)) d c3 0 r3
-unfolding headBytes headAt
-head-put b s h l e u v w =
-    let stamps = wordsFrom 12 b (s .stamps) in
-    let back : take (s .stamps + 24 - s .stamps) (drop (s .stamps) b) ≡ wordsBytes stamps
-    = ap (λ (m : ℕ). take m (drop (s .stamps) b)) (add-sub-cancel-left (s .stamps) 24) ∙ sym (words-back 12 b (s .stamps) h l) in
-    let long : length (wordsBytes stamps) ≡ 2 * length stamps = words-bytes stamps in
-    let count = length-words 12 b (s .stamps) in
-    let first = record-at (stampsRecord stamps) 28 (omega arith) (u .wrote) (same-bytes back (v .wrote)) in
-    then-at (first .wrote) (same-bytes (ap (λ (t : List ℕ). recordBytes (stringRecord STRNAME (padded t))) e) (w .wrote))
-
 -- the stamps' part of the block
-pub stamps-length : (b : List ℕ) (at : ℕ) → length (take (at + 24 - at) (drop at b)) ≤ 24
-stamps-length b at = let e = add-sub-cancel-left at 24 in simp length-take (omega arith)
+pub stamps-length : (b : List ℕ) (at : ℕ) → at + 24 ≤ length b → length (take (at + 24 - at) (drop at b)) ≡ 24
+stamps-length b at l = let e = add-sub-cancel-left at 24 in simp (length-take, length-drop) (omega arith)
+
+-- the two records
+pub head-put : (b : List ℕ) (s : HeadPlaces) {name d c1 c2 : List ℕ} {i j r1 r2 : ℕ} → Bytes b → s .stamps + 24 ≤ length b → name ≡ stringAt b (s .name)
+    → Recorded (stamped BGNSTR (take (s .stamps + 24 - s .stamps) (drop (s .stamps) b))) i d c1 0 r1
+    → Recorded (stringRecord STRNAME (padded name)) j c1 c2 r1 r2
+    → WroteAt (headBytes (headAt b s)) d c2 0 r2
+unfolding headBytes headAt
+head-put b s h l e u w =
+    let back : take (s .stamps + 24 - s .stamps) (drop (s .stamps) b) ≡ wordsBytes (wordsFrom 12 b (s .stamps))
+    = ap (λ (m : ℕ). take m (drop (s .stamps) b)) (add-sub-cancel-left (s .stamps) 24) ∙ sym (words-back 12 b (s .stamps) h l) in
+    then-at (same-bytes (ap (λ (t : List ℕ). recordBytes (stamped BGNSTR t)) back) (u .wrote))
+    (same-bytes (ap (λ (t : List ℕ). recordBytes (stringRecord STRNAME (padded t))) e) (w .wrote))

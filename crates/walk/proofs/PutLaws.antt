@@ -2,7 +2,7 @@
 use mathlib.Core.Path.{_≡_, sym, ap, ap₂, _∙_, subst}
 use mathlib.Core.Bool.{Bool, cond}
 use mathlib.Core.List.{List, [], _∷_, _++_, append-nil}
-use Prim.Native.Nat.{ℕ, suc, _+_, _-_, _≤_, _<_}
+use Prim.Native.Nat.{ℕ, suc, _+_, _-_, _*_, _≤_, _<_}
 use native.Mathlib.Omega.{arith}
 use lib.Dec.{T}
 use lib.ListN.{length, take, drop, length-append, length-take, length-drop}
@@ -27,7 +27,7 @@ use Rattle.cell.specs.Cell.{writeBlocks}
 use Rattle.writing.specs.declared.Written.{Written}
 use Rattle.elements.specs.Block.{Fits, WritesBlock}
 use Rattle.walk.specs.Walk.{ElementsFit, PutsElements}
-use Rattle.walk.proofs.PairLaws.{pairs-count, blocks-turn, blocks-end}
+use Rattle.sheet.proofs.CountLaws.{pairs-count, blocks-turn, blocks-end}
 use Rattle.walk.proofs.WalkLaws.{Split, split, Reached, reached-start, reached-turn, reached-end}
 
 -- ---- an element's entry
@@ -90,7 +90,7 @@ module _ {policy : GdsRoundingPolicy} {d : Float} {i : ℕ} {b : List ℕ} {bs :
   entries-first : length (reportBytes es) ≡ length (reportBytes entries-of) + length (reportBytes (s .others))
   entries-first =
       ap (λ (l : List Entry). length (reportBytes l)) (s .entries)
-      ∙ ap length (report-append entries-of (s .others))
+      ∙ ap length (report-append [] entries-of (s .others))
       ∙ length-append (reportBytes entries-of) (reportBytes (s .others))
 
 -- ---- all blocks in turn: the state before block k of n
@@ -194,7 +194,7 @@ module _ {policy : GdsRoundingPolicy} {d : Float} {sheet before : List ℕ} {sta
           let c = at-block .report-long in
           let f = entries-first here in
           let g : length (reportBytes (standing (r .entry))) ≡ length (reportBytes (entries-of here)) = ap (λ (l : List Entry). length (reportBytes l)) noted in
-          let l = length-report (t .fit .entries) in
+          let l : length (reportBytes (t .fit .entries)) ≡ length (t .fit .entries) * 33 = length-report [] (t .fit .entries) in
           let q = t .fit .report-room in
           omega arith
 

@@ -29,7 +29,7 @@ use Rattle.forms.specs.Place.{stringAt}
 use Rattle.forms.specs.Forms.{headAt, HeadIn}
 use Rattle.forms.specs.Checks.{HeadRead}
 use Rattle.walk.specs.Walk.{headBytes, ElementsFit, PutsElements, StructureFits, PutsStructure}
-use Rattle.walk.proofs.PairLaws.{pairs-count, block-in}
+use Rattle.sheet.proofs.CountLaws.{pairs-count, block-in}
 use Rattle.walk.proofs.HeadLaws.{name-short}
 use Rattle.walk.proofs.WrittenLaws.{Sheet, sheet-split}
 

@@ -131,7 +131,7 @@ module _ (policy : GdsRoundingPolicy) (d : Float) (bs : List (List ℕ)) (ws : L
   reached-turn i b cs to at out after r s to′ at′ out′ after′ u v =
       let bytes : elementsBytes (r .rest) ≡ elementBytes (s .said) ++ elementsBytes (s .rest) = ap elementsBytes (s .elements) in
       let first = reportBytes (entryOf i (kindOf (s .element .body)) (s .deviations)) in
-      let entries : reportBytes (r .others) ≡ first ++ reportBytes (s .others) = ap reportBytes (s .entries) ∙ report-append (entryOf i (kindOf (s .element .body)) (s .deviations)) (s .others) in
+      let entries : reportBytes (r .others) ≡ first ++ reportBytes (s .others) = ap reportBytes (s .entries) ∙ report-append [] (entryOf i (kindOf (s .element .body)) (s .deviations)) (s .others) in
       let a = r .out-end in
       let c = u .count in
       let l : length (elementsBytes (r .rest)) ≡ length (elementBytes (s .said)) + length (elementsBytes (s .rest)) = ap length bytes ∙ length-append (elementBytes (s .said)) (elementsBytes (s .rest)) in

@@ -1,6 +1,5 @@
 -- A written sheet taken apart, and how many entries it has. Assumes nothing.
 use mathlib.Core.Path.{_≡_, refl, ap, _∙_}
-use mathlib.Core.Bool.{Bool, true, false}
 use mathlib.Core.Option.{Option, none, some}
 use mathlib.Core.List.{List, [], _∷_}
 use Prim.Native.Nat.{ℕ, suc, _-_, _≤_}
@@ -8,7 +7,6 @@ use native.Mathlib.Omega.{arith}
 use lib.Dec.{T}
 use lib.ListN.{length, length-append}
 use lib.Ieee.{Float}
-use Rattle.refusal.specs.declared.Refusal.{Refusal}
 use Rattle.conversion.specs.declared.GdsRoundingPolicy.{GdsRoundingPolicy}
 use Rattle.conversion.specs.declared.Deviation.{Deviation}
 use Rattle.conversion.specs.declared.Entry.{Entry}
@@ -20,14 +18,10 @@ use Rattle.stream.specs.Structure.{Said, Structure}
 use Rattle.cell.specs.declared.Answer.the-variants as A
 use Rattle.cell.specs.Stamps.{stampsFit}
 use Rattle.cell.specs.Names.{isName}
-use Rattle.cell.specs.Cell.{Result, stopped, written, check, writeBlocks, structureFor, structureWith, writeHeaded, writeSheet}
-use Rattle.walk.proofs.PairLaws.{pairs-count, length-blocks}
+use Rattle.cell.specs.Cell.{Result, stopped, written, writeBlocks, structureFor, structureWith, writeHeaded, writeSheet}
+use Rattle.sheet.proofs.CountLaws.{pairs-count, length-blocks}
+use Rattle.cell.proofs.ResultLaws.{check-passed}
 use Rattle.walk.proofs.WalkLaws.{split}
-
--- what is written has passed each check on its way
-pub check-passed : {A : Type 0} (t : Bool) (r : Refusal) (x : Result A) {a : A} {es : List Entry} → check t r x ≡ written a es → T t × (x ≡ written a es)
-check-passed true r x e = (tt, e)
-check-passed false r x e = let z : _≡_ {A = ℕ} 0 1 = cc in absurd (omega arith)
 
 pub record Sheet (policy : GdsRoundingPolicy) (d : Float) (sheet : List ℕ) (s : Structure) (es : List Entry) : Type 0 where
   pub pairs : T (pairsFit sheet)

@@ -23,7 +23,7 @@ ghost use Rattle.cell.specs.Cell.{writeBlocks, writeSheet};
 ghost use Rattle.cell.specs.Answer.{answerOf};
 ghost use Rattle.walk.specs.Walk.{headBytes, headMeasured, HeadSmall, totalsFrom, TotalsSmall, ElementsFit, PutsElements, StructureFits, PutsStructure};
 
-// BGNSTR: its head, and its data, the block's twelve numbers.
+// BGNSTR, and its data, the block's twelve numbers.
 const BGNSTR_LENGTH: usize = 28;
 
 const STAMPS: usize = 24;
@@ -183,15 +183,8 @@ fn put_head(b: &[u8], places: HeadPlaces, out: &mut [u8]) -> usize
     requires { ⌜ length (headBytes (headAt (now b) places)) ≤ length (now out) ⌝ }
     ensures { λ r. ⌜ WroteAt (headBytes (headAt (now (b .entry)) places)) (now (out .entry)) (now (out .exit)) 0 r ⌝ }
 {
-    let at = records::put_head_at(
-        out,
-        0,
-        BGNSTR_LENGTH as u16,
-        records::BGNSTR,
-        records::TWO_BYTE,
-    );
     let from = places.stamps;
-    let to = records::put_bytes_at(out, at, &b[from..from + STAMPS]);
+    let to = records::put_stamps_at(out, 0, records::BGNSTR, &b[from..from + STAMPS]);
     records::put_string_at(out, to, records::STRNAME, forms::string_at(b, places.name))
 }
 

@@ -13,7 +13,7 @@ use Rattle.sheet.specs.Cell.{elementBlocks}
 use Rattle.cell.specs.Limits.{maxSheetLength}
 use Rattle.cell.specs.Cell.{writeBlocks}
 use Rattle.walk.specs.Walk.{totalsFrom}
-use Rattle.walk.proofs.PairLaws.{pairs-count, block-in}
+use Rattle.sheet.proofs.CountLaws.{pairs-count, block-in}
 use Rattle.walk.proofs.BlocksLaws.{block-within, block-short, stands-once, left, left-start, left-stop, left-turn, left-end}
 use Rattle.walk.proofs.measure_elements.Statement.{statement}
 use Rattle.walk.proofs.measure_elements.Tie as tie

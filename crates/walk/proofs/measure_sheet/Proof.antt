@@ -4,7 +4,7 @@ use native.Mathlib.Omega.{arith}
 use borrow.Author.Needs.{needs}
 use Rattle.sheet.specs.Blocks.{pairCount}
 use Rattle.walk.specs.Walk.{HeadSmall, TotalsSmall}
-use Rattle.walk.proofs.PairLaws.{pairs-count, block-in}
+use Rattle.sheet.proofs.CountLaws.{pairs-count, block-in}
 use Rattle.walk.proofs.BlocksLaws.{pairs-hold}
 use Rattle.walk.proofs.SheetLaws.{pairs-stop, head-stop, elements-stop, sheet-through}
 use Rattle.walk.proofs.measure_sheet.Statement.{statement}

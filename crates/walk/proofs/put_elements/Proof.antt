@@ -2,7 +2,7 @@
 use Prim.Native.Nat.{_-_}
 use native.Mathlib.Omega.{arith}
 use borrow.Author.Needs.{needs}
-use Rattle.walk.proofs.PairLaws.{pairs-count, block-in}
+use Rattle.sheet.proofs.CountLaws.{pairs-count, block-in}
 use Rattle.walk.proofs.PutLaws.{Turns, turns-start, turns-end, out-same, report-same, index-small, turn-place, turn-fits, turn-end, turn-report, turn-next}
 use Rattle.walk.proofs.put_elements.Statement.{statement}
 use Rattle.walk.proofs.put_elements.Tie as tie

@@ -1,8 +1,9 @@
--- Measured first; then a refusal with nothing written, or the structure and its report (CellLaws). Assumes nothing.
+-- The caller's checks, then what follows them (CallLaws, CellLaws). Assumes nothing.
 use native.Mathlib.Omega.{arith}
 use borrow.Author.Needs.{needs}
 use Rattle.big_endian.specs.Big.{Bytes}
-use Rattle.write.proofs.CellLaws.{Measured, measured, known-policy, count-few, structure-fits, cell-refused, output-short, report-short, cell-written}
+use Rattle.write.proofs.CallLaws.{call-stop, sheet-size, cell-is}
+use Rattle.write.proofs.CellLaws.{cell-refused, cell-written}
 use Rattle.write.proofs.write_cell.Statement.{statement}
 use Rattle.write.proofs.write_cell.Tie as tie
 
@@ -10,51 +11,29 @@ use Rattle.write.proofs.write_cell.Tie as tie
 sheet-bytes : (c : tie.After-shared-slice-known) → Bytes (c .before .args .sheet .now)
 sheet-bytes c i = omega (arith, c .shared-slice-known .given i)
 
--- what was measured
-accepted : (c : tie.After-length) → Measured (c .before .before .before .before .before .before .args .policy) (c .before .before .before .before .before .before .args .d) (c .before .before .before .before .before .before .args .sheet .now) (c .length .given .0 .0) (c .length .given .0 .1 .0) (c .length .given .0 .1 .1 .0)
-accepted c =
-    let m = c .before .before .measure-cell in
-    let a = c .before .before .before .before .before .before .args in
-    measured (a .policy) (a .d) (a .sheet .now) (m .result) (c .length .given .1) (m .ensures)
-
-measure-cell-requires : tie.Need-measure-cell-requires
-measure-cell-requires c κs = search needs
+check-call-requires : tie.Need-check-call-requires
+check-call-requires c κs = search needs
 
 enum-known-refusal : tie.Need-enum-known-refusal
 enum-known-refusal c = search needs
 
-enum-known-length : tie.Need-enum-known-length
-enum-known-length c = search needs
+enum-known-rounding : tie.Need-enum-known-rounding
+enum-known-rounding c = search needs
 
-mul-size : tie.Need-mul-size
-mul-size c = let f = count-few (accepted (c .before)) in omega arith
+write-sheet-requires : tie.Need-write-sheet-requires
+write-sheet-requires c κs =
+    let k = c .before .before .before in
+    let v = k .before .before .check-call in
+    let a = k .before .before .before .before .before .before .args in
+    sheet-size (a .policy) (a .d) (a .sheet .now) (v .result) (v .ensures) (k .rounding .given .1)
 
 returns : tie.Need-returns
 returns c =
-    let m = c .before .before in
-    let s = m .before .before .before .before .before in
+    let k = c .before in
+    let v = k .before .before .check-call in
+    let s = k .before .before .before .before .before in
     let a = s .before .args in
-    output-short (a .out .now) (a .report .now) (s .before .good .1 .0 .1) (sheet-bytes s) (accepted m) (c .if1 .taken)
-
-returns-2 : tie.Need-returns-2
-returns-2 c =
-    let m = c .before .before .before in
-    let s = m .before .before .before .before .before in
-    let a = s .before .args in
-    report-short (a .out .now) (a .report .now) (s .before .good .1 .0 .1) (sheet-bytes s) (accepted m) (c .before .if1 .left) (c .if2 .taken)
-
-policy-of-requires : tie.Need-policy-of-requires
-policy-of-requires c κs = known-policy (accepted (c .before .before .before))
-
-put-structure-requires : tie.Need-put-structure-requires
-put-structure-requires c κs = structure-fits (accepted (c .before .before .before .before .before .before)) (c .before .before .policy-of .ensures) (c .before .before .before .before .if1 .left) (c .before .before .before .if2 .left)
-
-returns-3 : tie.Need-returns-3
-returns-3 c =
-    let s = c .before .before .before .before .before .before in
-    let a = s .before .args in
-    let m = c .before .before .before .measure-cell in
-    cell-refused (a .out .now) (a .report .now) (s .before .good .1 .0 .1) (sheet-bytes s) (m .result) (c .before .refusal .given .1) (m .ensures)
+    cell-refused (a .out .now) (a .report .now) (s .before .good .1 .0 .1) (sheet-bytes s) (call-stop (a .policy) (a .d) (a .sheet .now) (v .result) (v .ensures) (k .refusal .given .1))
 
 same-length : tie.Need-same-length
 same-length c = search needs
@@ -62,26 +41,23 @@ same-length c = search needs
 same-length-2 : tie.Need-same-length-2
 same-length-2 c = search needs
 
-returns-4 : tie.Need-returns-4
-returns-4 c =
-    let m = c .before .before .before .before .before .before .before .before .before .before .before in
-    let s = m .before .before .before .before .before in
+returns-2 : tie.Need-returns-2
+returns-2 c =
+    let k = c .before .before .before .before .before .before .before .before in
+    let v = k .before .before .check-call in
+    let s = k .before .before .before .before .before in
     let a = s .before .args in
-    cell-written (a .out .now) (a .report .now) (s .before .good .1 .0 .1) (sheet-bytes s) (accepted m) (c .before .before .before .before .before .before .before .before .before .if1 .left) (c .before .before .before .before .before .before .before .before .if2 .left) (c .before .before .before .before .before .before .before .policy-of .ensures) (c .before .before .before .before .put-structure .ensures)
+    cell-written (a .out .now) (a .report .now) (s .before .good .1 .0 .1) (sheet-bytes s) (cell-is (a .policy) (a .d) (a .sheet .now) (v .result) (v .ensures) (k .rounding .given .1)) (c .before .before .before .before .write-sheet .ensures)
 
 pub write-cell-spec : {M : Type 1} → statement M
 write-cell-spec =
     tie.close
     (tie.spec
-    measure-cell-requires
+    check-call-requires
     enum-known-refusal
-    enum-known-length
-    mul-size
+    enum-known-rounding
+    write-sheet-requires
     returns
-    returns-2
-    policy-of-requires
-    put-structure-requires
-    returns-3
     same-length
     same-length-2
-    returns-4)
+    returns-2)

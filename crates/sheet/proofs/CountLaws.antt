@@ -1,4 +1,4 @@
--- How many pairs there are where they fit, and the blocks after the head in turn. Assumes nothing.
+-- How many pairs there are where they fit, the blocks after the head in turn, and that blocks are bytes. Assumes nothing.
 use mathlib.Core.Path.{_≡_, refl, ap, _∙_}
 use mathlib.Core.Bool.{_&&_}
 use mathlib.Core.List.{List, [], _∷_}
@@ -8,8 +8,11 @@ use lib.Dec.{T, leb, leb→le}
 use lib.ListN.{length}
 use lib.Ieee.Bits.{is-true}
 use lib.Ieee.Fits.{and-l, and-r}
+use Rattle.big_endian.specs.Big.{Bytes}
+use Rattle.big_endian.proofs.BytesLaws.{take-bytes, drop-bytes}
+use Rattle.parsing.specs.All.{All, done, more}
 use Rattle.sheet.specs.Blocks.{maxPairs, pairCount, offsetOf, lengthOf, chained, pairsFit, blockOf, blocksFrom}
 use Rattle.sheet.proofs.PairLaws.{pairs-block}
 
 pub record Counted (s : List ℕ) : Type 0 where
   pub word : 4 ≤ length s
@@ -54,3 +57,14 @@ pub length-blocks : (n k : ℕ) (s : List ℕ) → length (blocksFrom n k s) ≡
 unfolding blocksFrom
 length-blocks zero k s = refl
 length-blocks (suc n) k s = ap suc (length-blocks n (suc k) s)
+
+-- ---- blocks are bytes
+
+pub block-bytes : (s : List ℕ) (k : ℕ) → Bytes s → Bytes (blockOf s k)
+unfolding blockOf
+block-bytes s k h = take-bytes (lengthOf s k) _ (drop-bytes (offsetOf s k) s h)
+
+pub blocks-bytes : (n k : ℕ) (s : List ℕ) → Bytes s → All Bytes (blocksFrom n k s)
+unfolding blocksFrom
+blocks-bytes zero k s h = done
+blocks-bytes (suc n) k s h = more (block-bytes s k h) (blocks-bytes n (suc k) s h)
