@@ -2,21 +2,21 @@
 use mathlib.Core.Path.{_≡_, sym, ap, ap₂, _∙_, subst}
 use mathlib.Core.Bool.{Bool, cond}
 use mathlib.Core.List.{List, [], _∷_, _++_, append-nil}
-use Prim.Native.Nat.{ℕ, suc, _+_, _-_, _*_, _≤_, _<_}
+use Prim.Native.Nat.{ℕ, suc, _+_, _-_, _≤_, _<_}
 use native.Mathlib.Omega.{arith}
 use lib.Dec.{T}
 use lib.ListN.{length, take, drop, length-append, length-take, length-drop}
 use lib.Ieee.{Float}
 use borrow.Author.Tests.{eq-eqb, ne-eqb}
-use Rattle.big_endian.specs.Buffer.{splice, Wrote, WroteAt}
-use Rattle.big_endian.proofs.BufferLaws.{from-zero, nothing-at, part-at, same-bytes}
+use Rattle.big_endian.specs.Buffer.{Wrote, WroteAt}
+use Rattle.big_endian.proofs.BufferLaws.{from-zero, nothing-at, part-at, same-bytes, then-at}
 use Rattle.conversion.specs.declared.GdsRoundingPolicy.{GdsRoundingPolicy}
 use Rattle.conversion.specs.declared.Entry.{Entry}
-use Rattle.conversion.specs.Entry.{entryOf, entryBytes, reportBytes}
+use Rattle.conversion.specs.Entry.{entryOf, entryBytes, reportWith}
 use Rattle.conversion.specs.declared.Deviation.{Deviation}
 use Rattle.conversion.specs.Made.{made}
 use Rattle.conversion.specs.Fold.{blankEntry, notedAll, standing}
-use Rattle.conversion.proofs.EntryLaws.{length-entry, length-report, report-append}
+use Rattle.conversion.proofs.EntryLaws.{length-entry, report-append}
 use Rattle.conversion.proofs.FoldLaws.{entry-stands}
 use Rattle.sheet.specs.Element.{Element, kindOf}
 use Rattle.sheet.specs.Blocks.{maxPairs, pairCount, pairsFit, blockOf, blocksFrom}
@@ -33,21 +33,22 @@ use Rattle.walk.proofs.WalkLaws.{Split, split, Reached, reached-start, 
 -- ---- an element's entry
 
 -- none stands
-pub entry-none : (e : Entry) (d : List ℕ) (at : ℕ) → e .count ≡ 0 → at + length (reportBytes (standing e)) ≤ length d → WroteAt (reportBytes (standing e)) d d at at
-entry-none e d at h l = same-bytes (sym (ap (λ (t : Bool). reportBytes (cond t [] (e ∷ []))) (eq-eqb (e .count) 0 h))) (nothing-at d at (omega arith))
+pub entry-none : (lead : List ℕ) (e : Entry) (d : List ℕ) (at : ℕ) → e .count ≡ 0 → at + length (reportWith lead (standing e)) ≤ length d → WroteAt (reportWith lead (standing e)) d d at at
+entry-none lead e d at h l = same-bytes (sym (ap (λ (t : Bool). reportWith lead (cond t [] (e ∷ []))) (eq-eqb (e .count) 0 h))) (nothing-at d at (omega arith))
 
 -- one stands
-module _ (e : Entry) (h : e .count ≡ 0 → ⊥) where
-  stands : reportBytes (standing e) ≡ entryBytes e
-  stands = ap (λ (t : Bool). reportBytes (cond t [] (e ∷ []))) (ne-eqb (e .count) 0 h) ∙ append-nil (entryBytes e)
+module _ (lead : List ℕ) (e : Entry) (h : e .count ≡ 0 → ⊥) where
+  stands : reportWith lead (standing e) ≡ lead ++ entryBytes e
+  stands = ap (λ (t : Bool). reportWith lead (cond t [] (e ∷ []))) (ne-eqb (e .count) 0 h) ∙ append-nil (lead ++ entryBytes e)
 
-  pub entry-room : (at n : ℕ) → at + length (reportBytes (standing e)) ≤ n → at + 33 ≤ n
+  pub entry-room : (at n : ℕ) → at + length (reportWith lead (standing e)) ≤ n → at + (length lead + 33) ≤ n
   entry-room at n l =
-      let k : length (reportBytes (standing e)) ≡ 33 = ap length stands ∙ length-entry e in
+      let k = ap length stands ∙ length-append lead (entryBytes e) in
+      let m = length-entry e in
       omega arith
 
-  pub entry-put : {d after : List ℕ} {at r : ℕ} → WroteAt (entryBytes e) d after at r → WroteAt (reportBytes (standing e)) d after at r
-  entry-put w = same-bytes (sym stands) w
+  pub entry-put : {d cur after : List ℕ} {at r1 r2 : ℕ} → WroteAt lead d cur at r1 → WroteAt (entryBytes e) cur after r1 r2 → WroteAt (reportWith lead (standing e)) d after at r2
+  entry-put u w = same-bytes (sym stands) (then-at u w)
 
 -- ---- one block, lent a part of the output
 
@@ -87,24 +88,24 @@ module _ {policy : GdsRoundingPolicy} {d : Float} {i : ℕ} {b : List ℕ} {bs :
   unfolding elementsBytes
   bytes-first = ap (λ (l : List Said). length (elementsBytes l)) (s .elements) ∙ length-append bytes (elementsBytes (s .rest))
 
-  entries-first : length (reportBytes es) ≡ length (reportBytes entries-of) + length (reportBytes (s .others))
-  entries-first =
-      ap (λ (l : List Entry). length (reportBytes l)) (s .entries)
-      ∙ ap length (report-append [] entries-of (s .others))
-      ∙ length-append (reportBytes entries-of) (reportBytes (s .others))
+  entries-first : (lead : List ℕ) → length (reportWith lead es) ≡ length (reportWith lead entries-of) + length (reportWith lead (s .others))
+  entries-first lead =
+      ap (λ (l : List Entry). length (reportWith lead l)) (s .entries)
+      ∙ ap length (report-append lead entries-of (s .others))
+      ∙ length-append (reportWith lead entries-of) (reportWith lead (s .others))
 
 -- ---- all blocks in turn: the state before block k of n
 
-pub record Turns (policy : GdsRoundingPolicy) (d : Float) (sheet before : List ℕ) (start : ℕ) (report : List ℕ) (n : ℕ) (out after : List ℕ) (k to at : ℕ) : Type 0 where
+pub record Turns (policy : GdsRoundingPolicy) (d : Float) (sheet lead before report : List ℕ) (n : ℕ) (out after : List ℕ) (k to at : ℕ) : Type 0 where
   pub first : 1 ≤ k
   pub within : k ≤ n
   pub count : n ≡ pairCount sheet
   pub most : n ≤ maxPairs
-  pub fit : ElementsFit policy d sheet start (length before) (length report)
-  pub reached : Reached policy d (k - 1) (blocksFrom (n - k) k sheet) (fit .elements) (fit .entries) start before report to at out after
+  pub fit : ElementsFit policy d sheet lead (length before) (length report)
+  pub reached : Reached policy d (k - 1) (blocksFrom (n - k) k sheet) (fit .elements) (fit .entries) lead before report to at out after
 
-module _ {policy : GdsRoundingPolicy} {d : Float} {sheet before : List ℕ} {start : ℕ} {report : List ℕ} {n : ℕ} where
-  pub turns-start : T (pairsFit sheet) → n ≡ pairCount sheet → ElementsFit policy d sheet start (length before) (length report) → Turns policy d sheet before start report n before report 1 start 0
+module _ {policy : GdsRoundingPolicy} {d : Float} {sheet lead before report : List ℕ} {n : ℕ} where
+  pub turns-start : T (pairsFit sheet) → n ≡ pairCount sheet → ElementsFit policy d sheet lead (length before) (length report) → Turns policy d sheet lead before report n before report 1 0 0
   turns-start p e f =
       let c = pairs-count sheet p in
       let l = c .least in
@@ -115,29 +116,29 @@ module _ {policy : GdsRoundingPolicy} {d : Float} {sheet before : List ℕ} {sta
         count = e;
         most = omega arith;
         fit = f;
-        reached = reached-start policy d (blocksFrom (n - 1) 1 sheet) (f .elements) (f .entries) start before report (ap (λ (j : ℕ). writeBlocks policy d 0 (blocksFrom (j - 1) 1 sheet)) e ∙ f .writes);
+        reached = reached-start policy d (blocksFrom (n - 1) 1 sheet) (f .elements) (f .entries) lead before report (ap (λ (j : ℕ). writeBlocks policy d 0 (blocksFrom (j - 1) 1 sheet)) e ∙ f .writes);
       }
 
-module _ {policy : GdsRoundingPolicy} {d : Float} {sheet before : List ℕ} {start : ℕ} {report : List ℕ} {n : ℕ} {out after : List ℕ} {k to at : ℕ}
-    (t : Turns policy d sheet before start report n out after k to at) where
+module _ {policy : GdsRoundingPolicy} {d : Float} {sheet lead before report : List ℕ} {n : ℕ} {out after : List ℕ} {k to at : ℕ}
+    (t : Turns policy d sheet lead before report n out after k to at) where
   -- the state, over the blocks that are left
   abbrev Before : List (List ℕ) → Type 0
-  Before bs = Reached policy d (k - 1) bs (t .fit .elements) (t .fit .entries) start before report to at out after
+  Before bs = Reached policy d (k - 1) bs (t .fit .elements) (t .fit .entries) lead before report to at out after
 
-  pub turns-end : n ≤ k → PutsElements policy d sheet start before report out after to
+  pub turns-end : n ≤ k → PutsElements policy d sheet lead before report out after (record { out = to; report = at })
   turns-end l =
       let f = t .fit in
-      let e = reached-end policy d [] (f .elements) (f .entries) start before report (k - 1) to at out after (subst Before (blocks-end n k sheet l) (t .reached)) in
+      let e = reached-end policy d [] (f .elements) (f .entries) lead before report (k - 1) to at out after (f .out-room) (f .report-room) (subst Before (blocks-end n k sheet l) (t .reached)) in
       record {
-        output = λ ws es w. let a : f .elements ≡ ws = cc (f .writes, w) in same-bytes (ap elementsBytes a) (record { count = e .1 .1; fits = f .out-room; out = e .0 });
-        entries = λ ws es w. let a : f .entries ≡ es = cc (f .writes, w) in e .1 .0 ∙ ap (λ (l : List Entry). splice 0 (reportBytes l) report) a;
+        output = λ ws es w. let a : f .elements ≡ ws = cc (f .writes, w) in from-zero (same-bytes (ap elementsBytes a) (e .0));
+        entries = λ ws es w. let a : f .entries ≡ es = cc (f .writes, w) in from-zero (same-bytes (ap (reportWith lead) a) (e .1));
       }
 
   pub out-same : length out ≡ length before
-  out-same = t .reached .out-long
+  out-same = t .reached .output .long
 
   pub report-same : length after ≡ length report
-  report-same = t .reached .report-long
+  report-same = t .reached .entries .long
 
   -- the index of block k fits its 4 bytes
   pub index-small : k - 1 < 16384
@@ -162,8 +163,8 @@ module _ {policy : GdsRoundingPolicy} {d : Float} {sheet before : List ℕ} {sta
 
     room : to + length bytes-here ≤ length out
     room =
-        let a = at-block .out-end in
-        let c = at-block .out-long in
+        let a = at-block .output .end in
+        let c = at-block .output .long in
         let e = bytes-first here in
         let f = t .fit .out-room in
         omega arith
@@ -188,13 +189,12 @@ module _ {policy : GdsRoundingPolicy} {d : Float} {sheet before : List ℕ} {sta
       pub turn-end : to + r .to ≤ length out
       turn-end = let a = room in let c = done .count in omega arith
 
-      pub turn-report : at + length (reportBytes (standing (r .entry))) ≤ length after
+      pub turn-report : at + length (reportWith lead (standing (r .entry))) ≤ length after
       turn-report =
-          let a = at-block .report-end in
-          let c = at-block .report-long in
-          let f = entries-first here in
-          let g : length (reportBytes (standing (r .entry))) ≡ length (reportBytes (entries-of here)) = ap (λ (l : List Entry). length (reportBytes l)) noted in
-          let l : length (reportBytes (t .fit .entries)) ≡ length (t .fit .entries) * 33 = length-report [] (t .fit .entries) in
+          let a = at-block .entries .end in
+          let c = at-block .entries .long in
+          let f = entries-first here lead in
+          let g : length (reportWith lead (standing (r .entry))) ≡ length (reportWith lead (entries-of here)) = ap (λ (l : List Entry). length (reportWith lead l)) noted in
           let q = t .fit .report-room in
           omega arith
 
@@ -202,16 +202,16 @@ module _ {policy : GdsRoundingPolicy} {d : Float} {sheet before : List ℕ} {sta
       abbrev whole : List ℕ
       whole = take to out ++ (last ++ drop (length out - to) (drop to out))
 
-      pub turn-next : {after′ : List ℕ} {at′ : ℕ} → WroteAt (reportBytes (standing (r .entry))) after after′ at at′ → Turns policy d sheet before start report n whole after′ (k + 1) (to + r .to) at′
+      pub turn-next : {after′ : List ℕ} {at′ : ℕ} → WroteAt (reportWith lead (standing (r .entry))) after after′ at at′ → Turns policy d sheet lead before report n whole after′ (k + 1) (to + r .to) at′
       turn-next {after′} {at′} v =
-          let next = reached-turn policy d (b ∷ others) (t .fit .elements) (t .fit .entries) start before report (k - 1) b others to at out after at-block here (to + r .to) at′ whole after′ (part-at turn-place done) (same-bytes (ap reportBytes noted) v) in
+          let next = reached-turn policy d (b ∷ others) (t .fit .elements) (t .fit .entries) lead before report (k - 1) b others to at out after at-block here (to + r .to) at′ whole after′ (part-at turn-place done) (same-bytes (ap (reportWith lead) noted) v) in
           record {
             first = omega arith;
             within = omega arith;
             count = t .count;
             most = t .most;
             fit = t .fit;
-            reached = subst (λ (j : ℕ). Reached policy d j others (t .fit .elements) (t .fit .entries) start before report (to + r .to) at′ whole after′) (index k (t .first)) next;
+            reached = subst (λ (j : ℕ). Reached policy d j others (t .fit .elements) (t .fit .entries) lead before report (to + r .to) at′ whole after′) (index k (t .first)) next;
           }
         where
           index : (k : ℕ) → 1 ≤ k → suc (k - 1) ≡ k + 1 - 1

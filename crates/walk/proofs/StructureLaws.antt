@@ -2,17 +2,17 @@
 use mathlib.Core.Path.{_≡_, refl, sym, ap, _∙_, subst}
 use mathlib.Core.Option.{some}
 use mathlib.Core.List.{List, _++_}
-use Prim.Native.Nat.{ℕ, _+_, _≤_}
+use Prim.Native.Nat.{ℕ, _+_, _-_, _≤_}
 use native.Mathlib.Omega.{arith}
 use lib.Dec.{T}
-use lib.ListN.{length, length-append}
+use lib.ListN.{length, take, drop, length-append, length-take, length-drop}
 use lib.Ieee.{Float}
 use lib.Ieee.Bits.{is-true}
-use Rattle.big_endian.specs.Buffer.{splice, WroteAt}
-use Rattle.big_endian.proofs.BufferLaws.{then-at, length-at}
+use Rattle.big_endian.specs.Buffer.{Wrote, WroteAt}
+use Rattle.big_endian.proofs.BufferLaws.{from-zero, part-at, same-bytes, then-at, length-at}
 use Rattle.conversion.specs.declared.GdsRoundingPolicy.{GdsRoundingPolicy}
 use Rattle.conversion.specs.declared.Entry.{Entry}
-use Rattle.conversion.specs.Entry.{reportBytes}
+use Rattle.conversion.specs.Entry.{reportWith}
 use Rattle.sheet.specs.Element.{Head, headOf}
 use Rattle.sheet.specs.Blocks.{pairCount, pairsFit, blockOf, offsetOf, lengthOf}
 use Rattle.stream.specs.Record.{ENDSTR}
@@ -28,12 +28,13 @@ use Rattle.forms.specs.declared.HeadForm.the-variants as F
 use Rattle.forms.specs.Place.{stringAt}
 use Rattle.forms.specs.Forms.{headAt, HeadIn}
 use Rattle.forms.specs.Checks.{HeadRead}
+use Rattle.walk.specs.declared.Ends.{Ends}
 use Rattle.walk.specs.Walk.{headBytes, ElementsFit, PutsElements, StructureFits, PutsStructure}
 use Rattle.sheet.proofs.CountLaws.{pairs-count, block-in}
 use Rattle.walk.proofs.HeadLaws.{name-short}
 use Rattle.walk.proofs.WrittenLaws.{Sheet, sheet-split}
 
-module _ {policy : GdsRoundingPolicy} {d : Float} {sheet : List ℕ} (out report : List ℕ) (fit : StructureFits policy d sheet (length out) (length report)) where
+module _ {policy : GdsRoundingPolicy} {d : Float} {sheet : List ℕ} (lead out report : List ℕ) (fit : StructureFits policy d sheet lead (length out) (length report)) where
   abbrev parts : Sheet policy d sheet (fit .structure) (fit .entries)
   parts = sheet-split policy d sheet (fit .structure) (fit .entries) (fit .writes)
 
@@ -84,36 +85,58 @@ module _ {policy : GdsRoundingPolicy} {d : Float} {sheet : List ℕ} (out report
       head-fits = let l = structure-long in let m = fit .out-room in omega arith
 
       module _ {c1 : List ℕ} {start : ℕ} (head : WroteAt (headBytes (headAt b p)) out c1 0 start) where
-        pub elements-fit : ElementsFit policy d sheet start (length c1) (length report)
+        pub start-in : start ≤ length c1
+        start-in = let l = structure-long in let m = fit .out-room in let n = head .count in let o = length-at head in omega arith
+
+        -- the part that the elements are lent
+        abbrev part : List ℕ
+        part = take (length c1 - start) (drop start c1)
+
+        pub elements-fit : ElementsFit policy d sheet lead (length part) (length report)
         elements-fit =
             let l = structure-long in
             let m = fit .out-room in
             let n = head .count in
             let o = length-at head in
-            record { elements = parts .elements; entries = fit .entries; writes = parts .writes; out-room = omega arith; report-room = fit .report-room }
+            record {
+              elements = parts .elements;
+              entries = fit .entries;
+              writes = parts .writes;
+              out-room = simp (length-take, length-drop) (omega arith);
+              report-room = fit .report-room;
+            }
 
-        module _ {c2 report′ : List ℕ} {end : ℕ} (puts : PutsElements policy d sheet start c1 report c2 report′ end) where
-          body : WroteAt (elementsBytes (parts .elements)) c1 c2 start end
-          body = puts .output (parts .elements) (fit .entries) (parts .writes)
+        module _ {last report′ : List ℕ} {ends : Ends} (puts : PutsElements policy d sheet lead part report last report′ ends) where
+          -- the whole output, with the part come back
+          abbrev whole : List ℕ
+          whole = take start c1 ++ (last ++ drop (length c1 - start) (drop start c1))
 
-          pub end-fits : end + 4 ≤ length c2
-          end-fits =
+          body : WroteAt (elementsBytes (parts .elements)) c1 whole start (start + ends .out)
+          body = part-at start-in (puts .output (parts .elements) (fit .entries) (parts .writes))
+
+          -- ENDSTR has room
+          pub end-within : start + ends .out + 4 ≤ length out
+          end-within =
               let l = structure-long in
               let m = fit .out-room in
               let n = head .count in
-              let o = length-at head in
               let q = body .count in
+              omega arith
+
+          pub end-fits : start + ends .out + 4 ≤ length whole
+          end-fits =
+              let e = end-within in
+              let o = length-at head in
               let s = length-at body in
               omega arith
 
-          pub puts-structure : {c3 : List ℕ} {n to : ℕ} → Recorded (emptyRecord ENDSTR) n c2 c3 end to → PutsStructure policy d sheet out report c3 report′
+          pub puts-structure : {c3 : List ℕ} {n to : ℕ} → Recorded (emptyRecord ENDSTR) n whole c3 (start + ends .out) to
+              → PutsStructure policy d sheet lead out report c3 report′ (record { out = to; report = ends .report })
           puts-structure {c3} {n} {to} w =
               let all : WroteAt (headBytes (headAt b p) ++ (elementsBytes (parts .elements) ++ endBytes)) out c3 0 to = then-at head (then-at body (w .wrote)) in
               record {
-                output = λ s es f.
-                    let e : fit .structure ≡ s = cc (fit .writes, f) in
-                    all .out ∙ ap (λ (l : List ℕ). splice 0 l out) (sym structure-is ∙ ap structureBytes e);
+                output = λ s es f. let e : fit .structure ≡ s = cc (fit .writes, f) in from-zero (same-bytes (sym structure-is ∙ ap structureBytes e) all);
                 entries = λ s es f.
                     let e : fit .entries ≡ es = cc (fit .writes, f) in
-                    puts .entries (parts .elements) (fit .entries) (parts .writes) ∙ ap (λ (l : List Entry). splice 0 (reportBytes l) report) e;
+                    subst (λ (l : List Entry). Wrote (reportWith lead l) report report′ (ends .report)) e (puts .entries (parts .elements) (fit .entries) (parts .writes));
               }

@@ -1,9 +1,8 @@
 -- A turn of the measuring walk and of the writing walk over the blocks. Assumes nothing.
-use mathlib.Core.Path.{_≡_, refl, sym, ap, ap₂, _∙_}
+use mathlib.Core.Path.{_≡_, refl, sym, ap, ap₂, _∙_, subst}
 use mathlib.Core.Option.{some}
 use mathlib.Core.List.{List, [], _∷_, _++_}
-use Prim.Native.Nat.{ℕ, suc, _+_}
-use native.Mathlib.Nat.{zero-add}
+use Prim.Native.Nat.{ℕ, suc, _+_, _≤_}
 use native.Mathlib.Omega.{arith}
 use lib.ListN.{length, length-append}
 use lib.Ieee.{Float}
@@ -11,9 +10,9 @@ use Rattle.refusal.specs.declared.Refusal.{Refusal}
 use Rattle.conversion.specs.declared.GdsRoundingPolicy.{GdsRoundingPolicy}
 use Rattle.conversion.specs.declared.Deviation.{Deviation}
 use Rattle.conversion.specs.declared.Entry.{Entry}
-use Rattle.big_endian.specs.Buffer.{WroteAt, splice}
-use Rattle.big_endian.proofs.BufferLaws.{at-turn, at-end, length-at}
-use Rattle.conversion.specs.Entry.{entryOf, reportBytes, greatestFrom}
+use Rattle.big_endian.specs.Buffer.{WroteAt}
+use Rattle.big_endian.proofs.RowLaws.{Row, row-start, row-turn, row-end}
+use Rattle.conversion.specs.Entry.{entryOf, reportWith, greatestFrom}
 use Rattle.conversion.specs.Made.{made}
 use Rattle.conversion.specs.Fold.{blankEntry, notedAll, standing}
 use Rattle.conversion.proofs.FoldLaws.{entry-stands}
@@ -95,60 +94,47 @@ module _ (policy : GdsRoundingPolicy) (d : Float) (i : ℕ) (b : List ℕ) (bs :
 
 -- ---- the state of the writing walk, before block i + 1 of n
 
-pub record Reached (policy : GdsRoundingPolicy) (d : Float) (i : ℕ) (bs : List (List ℕ)) (ws : List Said) (es : List Entry) (start : ℕ) (before report : List ℕ) (to at : ℕ) (out after : List ℕ) : Type 0 where
+pub record Reached (policy : GdsRoundingPolicy) (d : Float) (i : ℕ) (bs : List (List ℕ)) (ws : List Said) (es : List Entry) (lead before report : List ℕ) (to at : ℕ) (out after : List ℕ) : Type 0 where
   pub rest : List Said
   pub others : List Entry
   pub writes : writeBlocks policy d i bs ≡ written rest others
-  pub out-is : splice start (elementsBytes ws) before ≡ splice to (elementsBytes rest) out
-  pub out-end : to + length (elementsBytes rest) ≡ start + length (elementsBytes ws)
-  pub report-is : splice 0 (reportBytes es) report ≡ splice at (reportBytes others) after
-  pub report-end : at + length (reportBytes others) ≡ length (reportBytes es)
-  pub out-long : length out ≡ length before
-  pub report-long : length after ≡ length report
+  pub output : Row 0 (elementsBytes ws) before to (elementsBytes rest) out
+  pub entries : Row 0 (reportWith lead es) report at (reportWith lead others) after
 
-module _ (policy : GdsRoundingPolicy) (d : Float) (bs : List (List ℕ)) (ws : List Said) (es : List Entry) (start : ℕ) (before report : List ℕ) where
-  pub reached-start : writeBlocks policy d 0 bs ≡ written ws es → Reached policy d 0 bs ws es start before report start 0 before report
-  reached-start w = record { rest = ws; others = es; writes = w; out-is = refl; out-end = refl; report-is = refl; report-end = zero-add (length (reportBytes es)); out-long = refl; report-long = refl }
+module _ (policy : GdsRoundingPolicy) (d : Float) (bs : List (List ℕ)) (ws : List Said) (es : List Entry) (lead before report : List ℕ) where
+  abbrev OutRow : ℕ → List ℕ → List ℕ → Type 0
+  OutRow to rest out = Row 0 (elementsBytes ws) before to rest out
 
-  pub reached-end : (i to at : ℕ) (out after : List ℕ) → Reached policy d i [] ws es start before report to at out after
-      → (out ≡ splice start (elementsBytes ws) before) × ((after ≡ splice 0 (reportBytes es) report) × (to ≡ start + length (elementsBytes ws)))
+  abbrev ReportRow : ℕ → List ℕ → List ℕ → Type 0
+  ReportRow at rest after = Row 0 (reportWith lead es) report at rest after
+
+  pub reached-start : writeBlocks policy d 0 bs ≡ written ws es → Reached policy d 0 bs ws es lead before report 0 0 before report
+  reached-start w = record { rest = ws; others = es; writes = w; output = row-start; entries = row-start }
+
+  pub reached-end : (i to at : ℕ) (out after : List ℕ) → length (elementsBytes ws) ≤ length before → length (reportWith lead es) ≤ length report
+      → Reached policy d i [] ws es lead before report to at out after → WroteAt (elementsBytes ws) before out 0 to × WroteAt (reportWith lead es) report after 0 at
   unfolding writeBlocks elementsBytes
-  reached-end i to at out after r =
+  reached-end i to at out after f g r =
       let p : r .rest ≡ [] = cc (r .writes) in
-      let q : r .others ≡ [] = cc (r .writes) in
-      let u = r .out-is ∙ ap (λ (l : List Said). splice to (elementsBytes l) out) p ∙ at-end to out in
-      let v = r .report-is ∙ ap (λ (l : List Entry). splice at (reportBytes l) after) q ∙ at-end at after in
-      let e = r .out-end in
-      let f : length (elementsBytes (r .rest)) ≡ 0 = ap (λ (l : List Said). length (elementsBytes l)) p in
-      (sym u, (sym v, omega arith))
+      let q : r .others ≡ [] = cc (r .writes) in (
+        row-end (omega arith) (subst (λ (l : List Said). OutRow to (elementsBytes l) out) p (r .output)),
+        row-end (omega arith) (subst (λ (l : List Entry). ReportRow at (reportWith lead l) after) q (r .entries)),
+      )
 
   -- one block more was written, and its entry if it has one
-  pub reached-turn : (i : ℕ) (b : List ℕ) (cs : List (List ℕ)) (to at : ℕ) (out after : List ℕ) (r : Reached policy d i (b ∷ cs) ws es start before report to at out after)
+  pub reached-turn : (i : ℕ) (b : List ℕ) (cs : List (List ℕ)) (to at : ℕ) (out after : List ℕ) (r : Reached policy d i (b ∷ cs) ws es lead before report to at out after)
       → (s : Split policy d i b cs (r .rest) (r .others)) (to′ at′ : ℕ) (out′ after′ : List ℕ) → WroteAt (elementBytes (s .said)) out out′ to to′
-      → WroteAt (reportBytes (entryOf i (kindOf (s .element .body)) (s .deviations))) after after′ at at′
-      → Reached policy d (suc i) cs ws es start before report to′ at′ out′ after′
+      → WroteAt (reportWith lead (entryOf i (kindOf (s .element .body)) (s .deviations))) after after′ at at′
+      → Reached policy d (suc i) cs ws es lead before report to′ at′ out′ after′
   unfolding elementsBytes
   reached-turn i b cs to at out after r s to′ at′ out′ after′ u v =
       let bytes : elementsBytes (r .rest) ≡ elementBytes (s .said) ++ elementsBytes (s .rest) = ap elementsBytes (s .elements) in
-      let first = reportBytes (entryOf i (kindOf (s .element .body)) (s .deviations)) in
-      let entries : reportBytes (r .others) ≡ first ++ reportBytes (s .others) = ap reportBytes (s .entries) ∙ report-append [] (entryOf i (kindOf (s .element .body)) (s .deviations)) (s .others) in
-      let a = r .out-end in
-      let c = u .count in
-      let l : length (elementsBytes (r .rest)) ≡ length (elementBytes (s .said)) + length (elementsBytes (s .rest)) = ap length bytes ∙ length-append (elementBytes (s .said)) (elementsBytes (s .rest)) in
-      let e = r .report-end in
-      let f = v .count in
-      let m : length (reportBytes (r .others)) ≡ length first + length (reportBytes (s .others)) = ap length entries ∙ length-append first (reportBytes (s .others)) in
+      let first = entryOf i (kindOf (s .element .body)) (s .deviations) in
+      let more : reportWith lead (r .others) ≡ reportWith lead first ++ reportWith lead (s .others) = ap (reportWith lead) (s .entries) ∙ report-append lead first (s .others) in
       record {
         rest = s .rest;
         others = s .others;
         writes = s .after;
-        out-is = r .out-is ∙ ap (λ (x : List ℕ). splice to x out) bytes ∙ at-turn u (elementsBytes (s .rest));
-        out-end = sum to (length (elementBytes (s .said))) (length (elementsBytes (s .rest))) _ _ _ c l a;
-        report-is = r .report-is ∙ ap (λ (x : List ℕ). splice at x after) entries ∙ at-turn v (reportBytes (s .others));
-        report-end = sum at (length first) (length (reportBytes (s .others))) _ _ _ f m e;
-        out-long = length-at u ∙ r .out-long;
-        report-long = length-at v ∙ r .report-long;
+        output = row-turn (subst (λ (l : List ℕ). OutRow to l out) bytes (r .output)) u;
+        entries = row-turn (subst (λ (l : List ℕ). ReportRow at l after) more (r .entries)) v;
       }
-    where
-      sum : (t p q t′ x y : ℕ) → t′ ≡ t + p → x ≡ p + q → t + x ≡ y → t′ + q ≡ y
-      sum t p q t′ x y a b c = omega arith

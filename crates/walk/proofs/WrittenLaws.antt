@@ -1,27 +1,21 @@
--- A written sheet taken apart, and how many entries it has. Assumes nothing.
+-- A written sheet taken apart. Assumes nothing.
 use mathlib.Core.Path.{_≡_, refl, ap, _∙_}
 use mathlib.Core.Option.{Option, none, some}
-use mathlib.Core.List.{List, [], _∷_}
-use Prim.Native.Nat.{ℕ, suc, _-_, _≤_}
+use mathlib.Core.List.{List}
+use Prim.Native.Nat.{ℕ}
 use native.Mathlib.Omega.{arith}
 use lib.Dec.{T}
-use lib.ListN.{length, length-append}
 use lib.Ieee.{Float}
 use Rattle.conversion.specs.declared.GdsRoundingPolicy.{GdsRoundingPolicy}
-use Rattle.conversion.specs.declared.Deviation.{Deviation}
 use Rattle.conversion.specs.declared.Entry.{Entry}
-use Rattle.conversion.specs.Entry.{entryOf}
-use Rattle.sheet.specs.Element.{Head, kindOf, headOf}
-use Rattle.sheet.specs.Blocks.{pairCount, pairsFit, blockOf}
+use Rattle.sheet.specs.Element.{Head, headOf}
+use Rattle.sheet.specs.Blocks.{pairsFit, blockOf}
 use Rattle.sheet.specs.Cell.{elementBlocks}
 use Rattle.stream.specs.Structure.{Said, Structure}
-use Rattle.cell.specs.declared.Answer.the-variants as A
 use Rattle.cell.specs.Stamps.{stampsFit}
 use Rattle.cell.specs.Names.{isName}
 use Rattle.cell.specs.Cell.{Result, stopped, written, writeBlocks, structureFor, structureWith, writeHeaded, writeSheet}
-use Rattle.sheet.proofs.CountLaws.{pairs-count, length-blocks}
 use Rattle.cell.proofs.ResultLaws.{check-passed}
-use Rattle.walk.proofs.WalkLaws.{split}
 
 pub record Sheet (policy : GdsRoundingPolicy) (d : Float) (sheet : List ℕ) (s : Structure) (es : List Entry) : Type 0 where
   pub pairs : T (pairsFit sheet)
@@ -51,28 +45,3 @@ sheet-split policy d sheet s es w =
         let t = check-passed (stampsFit (h .stamps)) _ _ g in
         let n = check-passed (isName (h .name)) _ _ (t .1) in
         by-walk p h e (n .0) (writeBlocks policy d 0 (elementBlocks sheet)) refl (n .1)
-
--- an element has at most one entry
-entry-one : (i k : ℕ) (vs : List Deviation) → length (entryOf i k vs) ≤ 1
-unfolding entryOf
-entry-one i k [] = omega arith
-entry-one i k (v ∷ vs) = omega arith
-
-walk-few : (policy : GdsRoundingPolicy) (d : Float) (i : ℕ) (bs : List (List ℕ)) (ws : List Said) (es : List Entry) → writeBlocks policy d i bs ≡ written ws es → length es ≤ length bs
-unfolding writeBlocks
-walk-few policy d i [] ws es w = let e : es ≡ [] = cc in let f = ap length e in omega arith
-walk-few policy d i (b ∷ bs) ws es w =
-    let s = split policy d i b bs ws es w in
-    let r = walk-few policy d (suc i) bs (s .rest) (s .others) (s .after) in
-    let o = entry-one i (kindOf (s .element .body)) (s .deviations) in
-    let l = ap length (s .entries) ∙ length-append (entryOf i (kindOf (s .element .body)) (s .deviations)) (s .others) in
-    omega arith
-
--- so their bytes can be counted
-pub entries-few : (policy : GdsRoundingPolicy) (d : Float) (sheet : List ℕ) (s : Structure) (es : List Entry) → writeSheet policy d sheet ≡ written s es → length es ≤ 16384
-entries-few policy d sheet s es w =
-    let x = sheet-split policy d sheet s es w in
-    let f = walk-few policy d 0 (elementBlocks sheet) (x .elements) es (x .writes) in
-    let l = length-blocks (pairCount sheet - 1) 1 sheet in
-    let m = pairs-count sheet (x .pairs) .most in
-    omega arith

@@ -10,8 +10,8 @@ use lib.Ieee.{Float}
 use Rattle.refusal.specs.declared.Refusal.the-variants as R
 use Rattle.conversion.specs.declared.GdsRoundingPolicy.{GdsRoundingPolicy}
 use Rattle.conversion.specs.declared.Entry.{Entry}
-use Rattle.conversion.specs.Entry.{greatestFrom, reportBytes}
-use Rattle.big_endian.specs.Buffer.{splice, WroteAt}
+use Rattle.conversion.specs.Entry.{greatestFrom, reportWith}
+use Rattle.big_endian.specs.Buffer.{Wrote}
 use Rattle.sheet.specs.Element.{Head}
 use Rattle.sheet.specs.Blocks.{maxPairs}
 use Rattle.sheet.specs.Cell.{elementBlocks}
@@ -19,10 +19,13 @@ use Rattle.stream.specs.Strings.{padded}
 use Rattle.stream.specs.Structure.{Said, Structure}
 use Rattle.stream.specs.Record.{STRNAME, recordBytes}
 use Rattle.stream.specs.Records.{elementsBytes, stampsRecord, stringRecord}
+use Rattle.cell.specs.declared.Answer.{Answer}
+use Rattle.cell.specs.declared.Answer.the-variants as A
 use Rattle.cell.specs.Limits.{maxSheetLength}
 use Rattle.cell.specs.Stamps.{stampsFit}
 use Rattle.cell.specs.Names.{isName}
-use Rattle.cell.specs.Cell.{Result, stopped, written, writeBlocks, writeSheet, structureBytes, entryLength}
+use Rattle.cell.specs.Cell.{Result, stopped, written, writeBlocks, writeSheet, structureBytes}
+use Rattle.walk.specs.declared.Ends.{Ends}
 use Rattle.walk.specs.declared.HeadMeasured.{HeadMeasured}
 use Rattle.walk.specs.declared.HeadMeasured.the-variants as H
 use Rattle.walk.specs.declared.Totals.{Totals}
@@ -59,33 +62,38 @@ unfoldable pub totalsFrom : ℕ → ℕ → Float → Result (List Said) → Tot
 totalsFrom n k g (stopped r b) = T.Refused r b
 totalsFrom n k g (written ws es) = T.Through (n + length (elementsBytes ws)) (k + length es) (greatestFrom g es)
 
--- at most 16,384 blocks, of which none is longer than the longest sheet: sums with it fit
+-- at most 16,384 blocks, of which none is longer than the longest sheet, each with one entry at most: sums with it fit
 abbrev pub TotalsSmall : Totals → Type 0
 TotalsSmall (T.Refused r b) = T true
-TotalsSmall (T.Through length entries greatest) = length ≤ maxPairs * (84 + 4 * maxSheetLength)
+TotalsSmall (T.Through length entries greatest) = (length ≤ maxPairs * (84 + 4 * maxSheetLength)) × (entries ≤ maxPairs)
 
--- no check refuses an element, and there is room for what is written: the elements' bytes from a place of the output on, and the entries
-pub record ElementsFit (policy : GdsRoundingPolicy) (d : Float) (sheet : List ℕ) (start out report : ℕ) : Type 0 where
+-- no check refuses an element, and there is room for what is written: the elements' bytes, and their entries, each after its lead
+pub record ElementsFit (policy : GdsRoundingPolicy) (d : Float) (sheet lead : List ℕ) (out report : ℕ) : Type 0 where
   pub elements : List Said
   pub entries : List Entry
   pub writes : writeBlocks policy d 0 (elementBlocks sheet) ≡ written elements entries
-  pub out-room : start + length (elementsBytes elements) ≤ out
-  pub report-room : entryLength * length entries ≤ report
+  pub out-room : length (elementsBytes elements) ≤ out
+  pub report-room : length (reportWith lead entries) ≤ report
 
--- then all of them are written, and nothing else
-pub record PutsElements (policy : GdsRoundingPolicy) (d : Float) (sheet : List ℕ) (start : ℕ) (out report out′ report′ : List ℕ) (r : ℕ) : Type 0 where
-  pub output : (ws : List Said) (es : List Entry) → writeBlocks policy d 0 (elementBlocks sheet) ≡ written ws es → WroteAt (elementsBytes ws) out out′ start r
-  pub entries : (ws : List Said) (es : List Entry) → writeBlocks policy d 0 (elementBlocks sheet) ≡ written ws es → report′ ≡ splice 0 (reportBytes es) report
+-- then all of them are written at the start of both parts, and nothing else; r says where they end
+pub record PutsElements (policy : GdsRoundingPolicy) (d : Float) (sheet lead out report out′ report′ : List ℕ) (r : Ends) : Type 0 where
+  pub output : (ws : List Said) (es : List Entry) → writeBlocks policy d 0 (elementBlocks sheet) ≡ written ws es → Wrote (elementsBytes ws) out out′ (r .out)
+  pub entries : (ws : List Said) (es : List Entry) → writeBlocks policy d 0 (elementBlocks sheet) ≡ written ws es → Wrote (reportWith lead es) report report′ (r .report)
 
 -- ---- the structure
 
-pub record StructureFits (policy : GdsRoundingPolicy) (d : Float) (sheet : List ℕ) (out report : ℕ) : Type 0 where
+-- the head's, the elements' and an ENDSTR: the sum over all cells of a library fits
+abbrev pub AnswerSmall : Answer → Type 0
+AnswerSmall (A.Refused r b) = T true
+AnswerSmall (A.Accepted length entries greatest) = (length ≤ 68 + maxPairs * (84 + 4 * maxSheetLength)) × (entries ≤ maxPairs)
+
+pub record StructureFits (policy : GdsRoundingPolicy) (d : Float) (sheet lead : List ℕ) (out report : ℕ) : Type 0 where
   pub structure : Structure
   pub entries : List Entry
   pub writes : writeSheet policy d sheet ≡ written structure entries
   pub out-room : length (structureBytes structure) ≤ out
-  pub report-room : entryLength * length entries ≤ report
+  pub report-room : length (reportWith lead entries) ≤ report
 
-pub record PutsStructure (policy : GdsRoundingPolicy) (d : Float) (sheet out report out′ report′ : List ℕ) : Type 0 where
-  pub output : (s : Structure) (es : List Entry) → writeSheet policy d sheet ≡ written s es → out′ ≡ splice 0 (structureBytes s) out
-  pub entries : (s : Structure) (es : List Entry) → writeSheet policy d sheet ≡ written s es → report′ ≡ splice 0 (reportBytes es) report
+pub record PutsStructure (policy : GdsRoundingPolicy) (d : Float) (sheet lead out report out′ report′ : List ℕ) (r : Ends) : Type 0 where
+  pub output : (s : Structure) (es : List Entry) → writeSheet policy d sheet ≡ written s es → Wrote (structureBytes s) out out′ (r .out)
+  pub entries : (s : Structure) (es : List Entry) → writeSheet policy d sheet ≡ written s es → Wrote (reportWith lead es) report report′ (r .report)

@@ -12,7 +12,7 @@ ghost use lib.Dec.{T};
 ghost use lib.ListN.{length};
 ghost use Rattle.big_endian.specs.Buffer.{WroteAt};
 ghost use Rattle.binary64.specs.Value.{zero64};
-ghost use Rattle.conversion.specs.Entry.{reportBytes, greatestFrom};
+ghost use Rattle.conversion.specs.Entry.{reportWith, greatestFrom};
 ghost use Rattle.conversion.specs.Fold.{standing};
 ghost use Rattle.sheet.specs.Element.{headOf};
 ghost use Rattle.sheet.specs.Blocks.{pairsFit};
@@ -21,7 +21,7 @@ ghost use Rattle.forms.specs.Place.{stringAt};
 ghost use Rattle.forms.specs.Forms.{headAt, HeadIn};
 ghost use Rattle.cell.specs.Cell.{writeBlocks, writeSheet};
 ghost use Rattle.cell.specs.Answer.{answerOf};
-ghost use Rattle.walk.specs.Walk.{headBytes, headMeasured, HeadSmall, totalsFrom, TotalsSmall, ElementsFit, PutsElements, StructureFits, PutsStructure};
+ghost use Rattle.walk.specs.Walk.{headBytes, headMeasured, HeadSmall, totalsFrom, TotalsSmall, ElementsFit, PutsElements, AnswerSmall, StructureFits, PutsStructure};
 
 // BGNSTR, and its data, the block's twelve numbers.
 const BGNSTR_LENGTH: usize = 28;
@@ -49,6 +49,12 @@ enum Totals {
         entries: usize,
         greatest: f64,
     },
+}
+
+// Where what was written ends, in the output and in the report.
+pub struct Ends {
+    pub out: usize,
+    pub report: usize,
 }
 
 // ---- measuring
@@ -144,6 +150,7 @@ fn measure_elements(policy: GdsRoundingPolicy, d: f64, sheet: &[u8]) -> Totals
 pub fn measure_sheet(policy: GdsRoundingPolicy, d: f64, sheet: &[u8]) -> Answer
     requires { ⌜ length (now sheet) ≤ 16777216 ⌝ }
     ensures { λ r. ⌜ r ≡ answerOf (writeSheet policy d (now (sheet .entry))) ⌝ }
+    ensures { λ r. ⌜ AnswerSmall r ⌝ }
 {
     if !sheet::pairs_fit(sheet) {
         return Answer::Refused {
@@ -188,62 +195,71 @@ fn put_head(b: &[u8], places: HeadPlaces, out: &mut [u8]) -> usize
     records::put_string_at(out, to, records::STRNAME, forms::string_at(b, places.name))
 }
 
-// The element's entry at a place of the report, if it stands.
-fn put_entry(entry: Entry, report: &mut [u8], at: usize) -> usize
-    requires { ⌜ at + length (reportBytes (standing entry)) ≤ length (now report) ⌝ }
-    ensures { λ r. ⌜ WroteAt (reportBytes (standing entry)) (now (report .entry)) (now (report .exit)) at r ⌝ }
+// The element's entry at a place of the report, after its lead, if it stands.
+fn put_entry(entry: Entry, lead: &[u8], report: &mut [u8], at: usize) -> usize
+    requires { ⌜ at + length (reportWith (now lead) (standing entry)) ≤ length (now report) ⌝ }
+    ensures { λ r. ⌜ WroteAt (reportWith (now (lead .entry)) (standing entry)) (now (report .entry)) (now (report .exit)) at r ⌝ }
 {
     if entry.count == 0 {
         return at;
     }
-    entry.put(report, at)
+    let from = records::put_bytes_at(report, at, lead);
+    entry.put(report, from)
 }
 
-// Every block after the head, in turn, each into the part of the output that starts where the last one ended; the place after them.
+// Every block after the head, in turn, each into the part of the output that starts where the last one ended.
 fn put_elements(
     policy: GdsRoundingPolicy,
     d: f64,
     sheet: &[u8],
+    lead: &[u8],
     out: &mut [u8],
-    start: usize,
     report: &mut [u8],
-) -> usize
+) -> Ends
     requires { ⌜ T (pairsFit (now sheet)) ⌝ }
-    requires { ⌜ ElementsFit policy d (now sheet) start (length (now out)) (length (now report)) ⌝ }
-    ensures { λ r. ⌜ PutsElements policy d (now (sheet .entry)) start (now (out .entry)) (now (report .entry)) (now (out .exit)) (now (report .exit)) r ⌝ }
+    requires { ⌜ ElementsFit policy d (now sheet) (now lead) (length (now out)) (length (now report)) ⌝ }
+    ensures { λ r. ⌜ PutsElements policy d (now (sheet .entry)) (now (lead .entry)) (now (out .entry)) (now (report .entry)) (now (out .exit)) (now (report .exit)) r ⌝ }
 {
     let n = big_endian::u32_at(sheet, 0) as usize;
     let mut next: usize = 1;
-    let mut to = start;
+    let mut to: usize = 0;
     let mut at: usize = 0;
     while next < n {
         let b = sheet::block(sheet, next);
         let written = elements::put_element(policy, d, b, (next - 1) as u32, &mut out[to..]);
         to = to + written.to;
-        at = put_entry(written.entry, report, at);
+        at = put_entry(written.entry, lead, report, at);
         next = next + 1;
     }
-    to
+    Ends {
+        out: to,
+        report: at,
+    }
 }
 
-// The structure of an accepted sheet, and its report.
+// The structure of an accepted sheet, and its report, each entry after the lead; both at the start of the part that is lent.
 pub fn put_structure(
     policy: GdsRoundingPolicy,
     d: f64,
     sheet: &[u8],
+    lead: &[u8],
     out: &mut [u8],
     report: &mut [u8],
-)
-    requires { ⌜ StructureFits policy d (now sheet) (length (now out)) (length (now report)) ⌝ }
-    ensures { λ r. ⌜ PutsStructure policy d (now (sheet .entry)) (now (out .entry)) (now (report .entry)) (now (out .exit)) (now (report .exit)) ⌝ }
+) -> Ends
+    requires { ⌜ StructureFits policy d (now sheet) (now lead) (length (now out)) (length (now report)) ⌝ }
+    ensures { λ r. ⌜ PutsStructure policy d (now (sheet .entry)) (now (lead .entry)) (now (out .entry)) (now (report .entry)) (now (out .exit)) (now (report .exit)) r ⌝ }
 {
     let b = sheet::block(sheet, 0);
     match forms::head_of(b) {
-        HeadForm::Ill => {}
+        HeadForm::Ill => Ends { out: 0, report: 0 },
         HeadForm::Head { places } => {
             let start = put_head(b, places, out);
-            let end = put_elements(policy, d, sheet, out, start, report);
-            records::put_empty_at(out, end, records::ENDSTR);
+            let ends = put_elements(policy, d, sheet, lead, &mut out[start..], report);
+            let end = records::put_empty_at(out, start + ends.out, records::ENDSTR);
+            Ends {
+                out: end,
+                report: ends.report,
+            }
         }
     }
 }

@@ -1,7 +1,7 @@
 -- A measured sheet, and what writing it and the cell owe for each way out. Assumes nothing.
 use mathlib.Core.Path.{_≡_, refl, sym, ap, _∙_, subst}
 use mathlib.Core.Bool.{true}
-use mathlib.Core.List.{List}
+use mathlib.Core.List.{List, []}
 use Prim.Native.Nat.{ℕ, _*_, _≤_, _<_}
 use native.Mathlib.Omega.{arith}
 use lib.Dec.{T, leb}
@@ -11,11 +11,11 @@ use borrow.Author.Tests.{le-leb, lt-leb}
 use Rattle.refusal.specs.declared.Refusal.{Refusal}
 use Rattle.refusal.specs.declared.Refusal.the-variants as R
 use Rattle.big_endian.specs.Big.{Bytes}
-use Rattle.big_endian.proofs.BufferLaws.{at-start}
 use Rattle.binary64.specs.Value.{zero64}
 use Rattle.conversion.specs.declared.GdsRoundingPolicy.{GdsRoundingPolicy}
 use Rattle.conversion.specs.declared.Entry.{Entry}
 use Rattle.conversion.specs.Entry.{reportBytes, greatestFrom}
+use Rattle.conversion.proofs.EntryLaws.{length-report}
 use Rattle.stream.specs.Structure.{Structure}
 use Rattle.cell.specs.declared.Answer.{Answer}
 use Rattle.cell.specs.declared.Answer.the-variants as A
@@ -25,11 +25,15 @@ use Rattle.cell.specs.Draws.{Draws}
 use Rattle.cell.proofs.ResultLaws.{check-on, check-off}
 use Rattle.cell.proofs.DrawsLaws.{demand3}
 use Rattle.cell.proofs.AnswerLaws.{accepted}
-use Rattle.walk.specs.Walk.{StructureFits, PutsStructure}
+use Rattle.walk.specs.declared.Ends.{Ends}
+use Rattle.walk.specs.Walk.{AnswerSmall, StructureFits, PutsStructure}
 use Rattle.write.specs.Writer.{fitted, defined, WritesSheet, WritesCell}
-use Rattle.walk.proofs.WrittenLaws.{entries-few}
 
 -- ---- a measured sheet
+
+-- so the entries' bytes can be counted
+pub count-few : {a : Answer} {n c : ℕ} {g : Float} → AnswerSmall a → a ≡ A.Accepted n c g → c ≤ 16384
+count-few s i = subst AnswerSmall i s .1
 
 -- the structure that was measured, by the answer
 pub record Measured (policy : GdsRoundingPolicy) (d : Float) (sheet : List ℕ) (n c : ℕ) (g : Float) : Type 0 where
@@ -56,16 +60,11 @@ module _ (policy : GdsRoundingPolicy) (d : Float) (sheet : List ℕ) (a : Answer
       go (written s es) f e = record { structure = s; entries = es; is = f; bytes = cc; count = cc; greatest = cc }
 
 module _ {policy : GdsRoundingPolicy} {d : Float} {sheet : List ℕ} {n c : ℕ} {g : Float} (m : Measured policy d sheet n c g) where
-  pub count-few : c ≤ 16384
-  count-few =
-      let f = entries-few policy d sheet (m .structure) (m .entries) (m .is) in
-      let e = m .count in
-      omega arith
-
-  pub structure-fits : {out report : ℕ} → n ≤ out → entryLength * c ≤ report → StructureFits policy d sheet out report
+  pub structure-fits : {out report : ℕ} → n ≤ out → entryLength * c ≤ report → StructureFits policy d sheet [] out report
   structure-fits o r =
       let a = m .bytes in
       let b = m .count in
+      let l : length (reportBytes (m .entries)) ≡ length (m .entries) * 33 = length-report [] (m .entries) in
       record { structure = m .structure; entries = m .entries; writes = m .is; out-room = omega arith; report-room = omega arith }
 
 -- ---- writing a sheet: each way out
@@ -113,15 +112,15 @@ module _ {policy : GdsRoundingPolicy} {d : Float} {sheet : List ℕ} (out report
           let b = m .count in
           refuses R.ReportShort 0 (to-report ∙ check-off (leb size (length report)) _ _ (lt-leb size (length report) (omega arith)))
 
-      pub sheet-written : entryLength * c ≤ length report → {out′ report′ : List ℕ} → PutsStructure policy d sheet out report out′ report′
+      pub sheet-written : entryLength * c ≤ length report → {out′ report′ : List ℕ} {ends : Ends} → PutsStructure policy d sheet [] out report out′ report′ ends
           → WritesSheet policy d sheet out report out′ report′ (A.Accepted n c g)
       sheet-written l {out′} {report′} w =
           let b = m .count in
           writes (A.Accepted n c g) out′ report′ (written (m .structure) (m .entries))
           (to-report ∙ check-on (leb size (length report)) _ _ (le-leb size (length report) (omega arith)))
           (cc (m .bytes, m .count, m .greatest))
-          (w .output (m .structure) (m .entries) (m .is) ∙ sym (at-start (structureBytes (m .structure)) out))
-          (w .entries (m .structure) (m .entries) (m .is) ∙ sym (at-start (reportBytes (m .entries)) report))
+          (w .output (m .structure) (m .entries) (m .is) .out)
+          (w .entries (m .structure) (m .entries) (m .is) .out)
 
 -- ---- writing a cell: the answer and both buffers are the definition's, so the structure draws the sheet's cell
 

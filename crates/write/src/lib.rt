@@ -52,7 +52,7 @@ fn write_sheet(
                     block: 0,
                 };
             }
-            walk::put_structure(rounding, d, sheet, out, report);
+            walk::put_structure(rounding, d, sheet, b"", out, report);
             Answer::Accepted {
                 length,
                 entries,

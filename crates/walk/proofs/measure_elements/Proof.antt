@@ -164,7 +164,8 @@ returns-2 c =
     let e = c .before .before .u32-at .ensures in
     let t = c .loop-test .left in
     let small = v .small in
-    (sym (v .rest ∙ left-end (s .args .policy) (s .args .d) (s .args .sheet .now) (c .before .before .u32-at .result) (l .k) (l .length) (l .entries) (l .greatest) t), omega arith)
+    let few = v .few in
+    (sym (v .rest ∙ left-end (s .args .policy) (s .args .d) (s .args .sheet .now) (c .before .before .u32-at .result) (l .k) (l .length) (l .entries) (l .greatest) t), (omega arith, omega arith))
 
 pub measure-elements-spec : {M : Type 1} → statement M
 measure-elements-spec =

@@ -8,14 +8,14 @@ use Rattle.walk.proofs.put_elements.Statement.{statement}
 use Rattle.walk.proofs.put_elements.Tie as tie
 
 abbrev Inv-loop : tie.InvT-loop
-Inv-loop policy d sheet out₀ start report₀ n next₀ to₀ at₀ out report next to at = Turns policy d sheet out₀ start report₀ n out report next to at
+Inv-loop policy d sheet lead out₀ report₀ n next₀ to₀ at₀ out report next to at = Turns policy d sheet lead out₀ report₀ n out report next to at
 
 abbrev μ-loop : tie.MeasureT-loop
-μ-loop policy d sheet out₀ start report₀ n next₀ to₀ at₀ out report next to at = n - next
+μ-loop policy d sheet lead out₀ report₀ n next₀ to₀ at₀ out report next to at = n - next
 
 u32-at-requires : tie.Need-u32-at-requires Inv-loop μ-loop
 u32-at-requires c κs =
-    let s = c .before .before .before in
+    let s = c .before .before .before .before in
     let l = pairs-count (s .args .sheet .now) (s .pre .0) .word in
     omega arith
 
@@ -23,12 +23,12 @@ cast-n : tie.Need-cast-n Inv-loop μ-loop
 cast-n c = search needs
 
 loop-holds : tie.Need-loop-holds Inv-loop μ-loop
-loop-holds c = turns-start (c .before .before .before .before .pre .0) (c .u32-at .ensures) (c .before .before .before .before .pre .1)
+loop-holds c = turns-start (c .before .before .before .before .before .pre .0) (c .u32-at .ensures) (c .before .before .before .before .before .pre .1)
 
 block-requires : tie.Need-block-requires Inv-loop μ-loop
 block-requires c κs =
     let l = c .before .loop in
-    let s = c .before .before .before .before .before .before in
+    let s = c .before .before .before .before .before .before .before in
     block-in (s .args .sheet .now) (c .before .before .u32-at .result) (l .next) (s .pre .0) (l .inv .count) (c .loop-test .taken)
 
 sub-put-element : tie.Need-sub-put-element Inv-loop μ-loop
@@ -56,7 +56,7 @@ add-to c =
     let v = c .before .before .before .before .before .before .before .loop .inv in
     let e = turn-end v (c .before .before .before .before .before .before .loop-test .taken) (c .before .before .before .before .before .block .ensures) (c .before .before .before .put-element .ensures) in
     let o = out-same v in
-    let q = c .before .before .before .before .before .before .before .before .before .before .before .before .good .1 .1 .1 .0 in
+    let q = c .before .before .before .before .before .before .before .before .before .before .before .before .before .good .1 .1 .1 .1 .0 in
     omega arith
 
 put-entry-requires : tie.Need-put-entry-requires Inv-loop μ-loop

@@ -1,4 +1,5 @@
--- Nothing where no entry stands, else its 33 bytes (PutLaws). Assumes nothing.
+-- Nothing where no entry stands, else its lead and its 33 bytes (PutLaws). Assumes nothing.
+use native.Mathlib.Omega.{arith}
 use lib.ListN.{length}
 use borrow.Author.Needs.{needs}
 use Rattle.walk.proofs.PutLaws.{entry-none, entry-room, entry-put}
@@ -7,19 +8,31 @@ use Rattle.walk.proofs.put_entry.Tie as tie
 
 returns : tie.Need-returns
 returns c =
-    let s = c .before .before .before in
-    entry-none (s .args .entry) (s .args .report .now) (s .args .at) (c .if1 .taken) (s .pre)
+    let s = c .before .before .before .before in
+    entry-none (s .args .lead .now) (s .args .entry) (s .args .report .now) (s .args .at) (c .if1 .taken) (s .pre)
+
+put-bytes-at-requires : tie.Need-put-bytes-at-requires
+put-bytes-at-requires c κs =
+    let s = c .before .before .before .before .before in
+    let r = entry-room (s .args .lead .now) (s .args .entry) (c .before .if1 .left) (s .args .at) (length (s .args .report .now)) (s .pre) in
+    omega arith
 
 put-requires : tie.Need-put-requires
 put-requires c κs =
-    let s = c .before .before .before .before in
-    entry-room (s .args .entry) (c .before .if1 .left) (s .args .at) (length (s .args .report .now)) (s .pre)
+    let s = c .before .before .before .before .before .before .before .before .before in
+    let r = entry-room (s .args .lead .now) (s .args .entry) (c .before .before .before .before .before .if1 .left) (s .args .at) (length (s .args .report .now)) (s .pre) in
+    let w = c .before .before .before .put-bytes-at .ensures in
+    let e = w .end in
+    let l = w .long in
+    omega arith
 
 same-length : tie.Need-same-length
 same-length c = search needs
 
 returns-2 : tie.Need-returns-2
-returns-2 c = entry-put (c .before .before .before .before .before .before .before .args .entry) (c .before .before .before .before .if1 .left) (c .before .before .put .ensures)
+returns-2 c =
+    let s = c .before .before .before .before .before .before .before .before .before .before .before .before in
+    entry-put (s .args .lead .now) (s .args .entry) (c .before .before .before .before .before .before .before .before .if1 .left) (c .before .before .before .before .before .before .put-bytes-at .ensures .wrote) (c .before .before .put .ensures)
 
 pub put-entry-spec : {M : Type 1} → statement M
-put-entry-spec = tie.close (tie.spec returns put-requires same-length returns-2)
+put-entry-spec = tie.close (tie.spec returns put-bytes-at-requires put-requires same-length returns-2)

@@ -10,7 +10,7 @@ accepted : (c : tie.After-length) → Measured (c .before .before .before .befor
 accepted c =
     let m = c .before .before .measure-sheet in
     let a = c .before .before .before .before .before .before .args in
-    measured (a .rounding) (a .d) (a .sheet .now) (m .result) (m .ensures) (c .length .given .1)
+    measured (a .rounding) (a .d) (a .sheet .now) (m .result) (m .ensures .0) (c .length .given .1)
 
 measure-sheet-requires : tie.Need-measure-sheet-requires
 measure-sheet-requires c κs = search needs
@@ -22,7 +22,7 @@ enum-known-length : tie.Need-enum-known-length
 enum-known-length c = search needs
 
 mul-size : tie.Need-mul-size
-mul-size c = let f = count-few (accepted (c .before)) in omega arith
+mul-size c = let f = count-few (c .before .before .before .measure-sheet .ensures .1) (c .before .length .given .1) in omega arith
 
 returns : tie.Need-returns
 returns c =
@@ -36,14 +36,17 @@ returns-2 c =
     let a = m .before .before .before .before .before .before .args in
     report-short (a .out .now) (a .report .now) (accepted m) (c .before .if1 .left) (c .if2 .taken)
 
+slice-aggregate-put-structure : tie.Need-slice-aggregate-put-structure
+slice-aggregate-put-structure c = search needs
+
 put-structure-requires : tie.Need-put-structure-requires
-put-structure-requires c κs = structure-fits (accepted (c .before .before .before .before .before)) (c .before .before .before .if1 .left) (c .before .before .if2 .left)
+put-structure-requires c κs = structure-fits (accepted (c .before .before .before .before .before .before)) (c .before .before .before .before .if1 .left) (c .before .before .before .if2 .left)
 
 returns-3 : tie.Need-returns-3
 returns-3 c =
     let m = c .before .before .before .measure-sheet in
     let a = c .before .before .before .before .before .before .before .args in
-    sheet-refused (a .out .now) (a .report .now) (m .result) (c .before .refusal .given .1) (m .ensures)
+    sheet-refused (a .out .now) (a .report .now) (m .result) (c .before .refusal .given .1) (m .ensures .0)
 
 same-length : tie.Need-same-length
 same-length c = search needs
@@ -53,9 +56,9 @@ same-length-2 c = search needs
 
 returns-4 : tie.Need-returns-4
 returns-4 c =
-    let m = c .before .before .before .before .before .before .before .before .before .before in
+    let m = c .before .before .before .before .before .before .before .before .before .before .before in
     let a = m .before .before .before .before .before .before .args in
-    sheet-written (a .out .now) (a .report .now) (accepted m) (c .before .before .before .before .before .before .before .before .if1 .left) (c .before .before .before .before .before .before .before .if2 .left) (c .before .before .before .before .put-structure .ensures)
+    sheet-written (a .out .now) (a .report .now) (accepted m) (c .before .before .before .before .before .before .before .before .before .if1 .left) (c .before .before .before .before .before .before .before .before .if2 .left) (c .before .before .before .before .put-structure .ensures)
 
 pub write-sheet-spec : {M : Type 1} → statement M
 write-sheet-spec =
@@ -67,6 +70,7 @@ write-sheet-spec =
     mul-size
     returns
     returns-2
+    slice-aggregate-put-structure
     put-structure-requires
     returns-3
     same-length
