@@ -3,8 +3,8 @@
 
 From the files in which the claims stand it works out which files of definitions and which types of the code they reach, by the `use` lines,
 and compares these with the page's reading list: the same files and types, each after all that it rests on, each with the paragraph that it is from.
-It also looks that none of them takes a name from a proof, that a function's contract has its claim from where the page says, and that a law of the claim's own
-type stands where the page says that it is proved.
+It also looks that nothing else stands in a folder specs/ but below specs/code, that none of them takes a name from there or from a proof,
+that a function's contract has its claim from where the page says, and that a law of the claim's own type stands where the page says that it is proved.
 
     tools/check_claim.py            prints what differs, and how many files and lines there are to read
 """
@@ -19,6 +19,8 @@ PAGE = ROOT / "docs" / "CLAIM.md"
 
 USE = re.compile(r"^use Rattle·([a-z0-9_]+)(?:·specs)?\.specs\.([\w.-]+?)(?:\.\{[^}]*\}| as \w+)?$")
 SOURCES = ("document 01", "document 02", "manual", "IEEE 754")
+# crates of tests and programs: what they define is data and layouts of their own
+TESTS = ("arithmetic", "bench_arithmetic", "cases", "conversions", "guards", "structure", "vectors")
 
 
 def table(text, heading):
@@ -59,6 +61,8 @@ def uses(place):
         if not match:
             sys.exit(f"check_claim.py: {shown(place)} takes more than definitions: {line}")
         crate, path = match[1], match[2].split(".")
+        if path[0] == "code":
+            sys.exit(f"check_claim.py: {shown(place)} rests on what serves proofs alone: {line}")
         if path[0] == "declared":
             found.add((crate, path[1], None))
         else:
@@ -118,6 +122,12 @@ def check(text):
         before |= here
     faults += [f"{shown(place)} is reached, and not on the reading list" for place in graph if place not in listed]
     faults += [f"{shown(place)} is on the reading list, and not reached" for place in listed if place not in graph]
+
+    # what serves proofs alone stands apart, in specs/code
+    for path in sorted(CRATES.glob("*/specs/*.antt")):
+        place = (path.parent.parent.name, path.stem)
+        if place[0] not in TESTS and place[1] not in ("Lib", "code") and place not in graph:
+            faults.append(f"{shown(place)} stands among what is believed, and no claim reaches it")
 
     # each file says where it is from
     lines = 0

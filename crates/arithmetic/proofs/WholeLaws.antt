@@ -8,7 +8,7 @@ use lib.Ieee.{Float}
 use lib.Ieee.Scale.{finite}
 use borrow.Author.Tests.{lt-ltb, le-ltb}
 use Rattle.binary64.specs.Value.{unit, sizeOf}
-use Rattle.binary64.specs.Parts.{PartsOf}
+use Rattle.binary64.specs.code.Parts.{PartsOf}
 use Rattle.binary64.proofs.PartsLaws.{size-under, size-over}
 use Rattle.arithmetic.specs.declared.Whole.the-variants.{NotFinite, Beyond, At}
 use Rattle.arithmetic.specs.Whole.{wholeOf}

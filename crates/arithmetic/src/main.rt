@@ -2,7 +2,7 @@
 ghost use mathlib.Core.Path.{_≡_};
 ghost use Prim.Native.Nat.{_+_, _*_, _/_, _≤_};
 ghost use lib.ListN.{length, getD};
-ghost use Rattle.binary64.specs.Whole.{rounded};
+ghost use Rattle.binary64.specs.code.Whole.{rounded};
 ghost use Rattle.arithmetic.specs.Whole.{wholeOf};
 ghost use Rattle.arithmetic.specs.Case as Case;
 ghost use Rattle.arithmetic.specs.Case.{doubleOf, oneOf, results, doubleAt, differing};

@@ -19,25 +19,25 @@ use Rattle.conversion.specs.declared.Entry.{Entry}
 use Rattle.conversion.specs.declared.GdsRoundingPolicy.{GdsRoundingPolicy}
 use Rattle.conversion.specs.declared.PhysicalValue.{PhysicalValue}
 use Rattle.conversion.specs.declared.PhysicalValue.the-variants as Q
-use Rattle.conversion.specs.Answer.{physicalOf}
+use Rattle.conversion.specs.code.Answer.{physicalOf}
 use Rattle.conversion.specs.Array.{physicalPoint, physicalSpacing, endpointPhysical, writePhysical, writeEndpoint}
 use Rattle.conversion.specs.Convert.{Spot, inRange, ranged, deviations, physicalValue, convertPhysical, arrayEndpoint}
 use Rattle.conversion.specs.Field.{xAxis, yAxis}
-use Rattle.conversion.specs.Fold.{run}
+use Rattle.conversion.specs.code.Fold.{run}
 use Rattle.conversion.specs.Made.{Made, refused, made, pure, need, _>>=_, _>>_}
 use Rattle.conversion.specs.Points.{spot}
 use Rattle.conversion.proofs.FoldLaws.{run-pure}
 use Rattle.conversion.proofs.MadeLaws.{refused-on, pure-on}
 use Rattle.sheet.specs.Form.{absentKind}
-use Rattle.forms.specs.Place.{pointAt, spacingAt}
+use Rattle.forms.specs.code.Place.{pointAt, spacingAt}
 use Rattle.writing.proofs.StepLaws.{run-through}
 use Rattle.coordinate.specs.declared.Valued.{Valued}
 use Rattle.coordinate.specs.declared.Valued.the-variants as G
 use Rattle.coordinate.specs.declared.Pointed.the-variants as P
-use Rattle.coordinate.specs.Coordinate.{valued, ValueGrown, Values, pointed}
+use Rattle.coordinate.specs.code.Coordinate.{valued, ValueGrown, Values, pointed}
 use Rattle.coordinate.proofs.ValueLaws.{value-stops, value-goes-on}
 use Rattle.array.specs.declared.Converted.the-variants as C
-use Rattle.array.specs.Corners.{converted, Converts, endOf, Ends}
+use Rattle.array.specs.code.Corners.{converted, Converts, endOf, Ends}
 
 -- ---- physical values
 

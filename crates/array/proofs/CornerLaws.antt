@@ -13,16 +13,16 @@ use Rattle.units.specs.declared.Unit as U
 use Rattle.units.specs.Point.{Point}
 use Rattle.conversion.specs.declared.Entry.{Entry}
 use Rattle.conversion.specs.declared.GdsRoundingPolicy.{GdsRoundingPolicy}
-use Rattle.conversion.specs.Answer.{pointOf}
+use Rattle.conversion.specs.code.Answer.{pointOf}
 use Rattle.conversion.specs.Array.{ArrayPoints, physicalPoint, physicalSpacing, turned, writePhysical, writeEndpoint, convertArray}
 use Rattle.conversion.specs.Field.{originField, columnSpacingField, rowSpacingField, columnEndpointField, rowEndpointField}
-use Rattle.conversion.specs.Fold.{notedAll, run}
+use Rattle.conversion.specs.code.Fold.{notedAll, run}
 use Rattle.conversion.specs.Made.{Made, Done, refused, made, pure, _>>=_, _>>_}
 use Rattle.conversion.proofs.FoldLaws.{run-bind, run-then, run-pure}
 use Rattle.writing.proofs.StepLaws.{run-through}
 use Rattle.coordinate.specs.declared.Pointed.{Pointed}
 use Rattle.coordinate.specs.declared.Pointed.the-variants as P
-use Rattle.coordinate.specs.Coordinate.{pointed, PointGrown}
+use Rattle.coordinate.specs.code.Coordinate.{pointed, PointGrown}
 use Rattle.array.specs.declared.Physical.{Physical}
 use Rattle.array.specs.declared.Physical.the-variants as F
 use Rattle.array.specs.declared.ArrayPoint.{ArrayPoint}
@@ -31,7 +31,7 @@ use Rattle.array.specs.declared.Converted.the-variants as C
 use Rattle.array.specs.declared.Corners.{Corners}
 use Rattle.array.specs.declared.Array.{Array}
 use Rattle.array.specs.declared.Array.the-variants as A
-use Rattle.array.specs.Corners.{physicalsOf, physicalPart, databasePart, converted, Grown, Converts, endOf, Ends, cornersFor, stepsOf, cornered, afterSteps, afterSpacings, afterOrigin}
+use Rattle.array.specs.code.Corners.{physicalsOf, physicalPart, databasePart, converted, Grown, Converts, endOf, Ends, cornersFor, stepsOf, cornered, afterSteps, afterSpacings, afterOrigin}
 
 -- ---- a step by its answer, and what is left after it
 

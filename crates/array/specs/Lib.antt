@@ -1,2 +1,2 @@
 -- What the code of an array's conversions answers.
-pub mod Corners
+pub mod code

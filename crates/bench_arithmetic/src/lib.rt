@@ -4,7 +4,7 @@ ghost use lib.Ieee.{binary64};
 ghost use Rattle.binary64.specs.Fma.{fma};
 ghost use Rattle.units.specs.declared.Unit.the-variants as Coordinate;
 ghost use Rattle.conversion.specs.declared.GdsRoundingPolicy.the-variants as Policy;
-ghost use Rattle.conversion.specs.Answer.{outcome};
+ghost use Rattle.conversion.specs.code.Answer.{outcome};
 ghost use Rattle.conversion.specs.Convert.{Spot, convertUnit};
 ghost use Rattle.bench_arithmetic.specs.Word.{wordOf};
 use conversion::Conversion;

@@ -14,7 +14,7 @@ use lib.Ieee.Back.{whole-unique}
 use lib.Ieee.Scale.{finite}
 use lib.Ieee.Positive.{num, den}
 use Rattle.binary64.specs.Value.{unit, sizeOf, halfUp, negative}
-use Rattle.binary64.specs.Parts.{PartsOf}
+use Rattle.binary64.specs.code.Parts.{PartsOf}
 use Rattle.binary64.specs.Step.{nearestDouble}
 use Rattle.binary64.proofs.Powers.{pow-split}
 use Rattle.binary64.proofs.WholeLaws.{nearest-up}

@@ -19,7 +19,7 @@ use lib.Ieee.Order.{drop, kept, transfer, round-mono}
 use lib.Ieee.Positive.{num, den, den-pos, positive, above, above-of-le, own-value, positive-of-value, value-pos, values-of-le}
 use lib.Ieee.Scale.{grid, overflow, finite, round-val}
 use Rattle.binary64.specs.Value.{unit, sizeOf, halfUp, negative, signed, scaled, floorDiv, floorOf, ceilOf, roundAway}
-use Rattle.binary64.specs.Whole.{rounded}
+use Rattle.binary64.specs.code.Whole.{rounded}
 use Rattle.binary64.specs.declared.Direction.{Direction}
 use Rattle.binary64.specs.declared.Direction.the-variants.{Nearest, Down, Up}
 use Rattle.binary64.proofs.Half.{round-under}

@@ -16,8 +16,8 @@ use Rattle.binary64.proofs.Powers.{pow-lt-back}
 use Rattle.binary64.specs.declared.Direction.{Direction}
 use Rattle.binary64.specs.declared.Direction.the-variants.{Nearest, Down, Up}
 use Rattle.binary64.specs.Value.{unit, sizeOf, negative, halfUp, cutDown, cutUp, signed, roundAway, floorOf, ceilOf}
-use Rattle.binary64.specs.Parts.{PartsOf}
-use Rattle.binary64.specs.Whole.{rounded, sizeToward}
+use Rattle.binary64.specs.code.Parts.{PartsOf}
+use Rattle.binary64.specs.code.Whole.{rounded, sizeToward}
 use Rattle.binary64.proofs.WholeLaws.{nearest-small, cut-small, up-small}
 use Rattle.binary64.proofs.ValueLaws.{size-of-value, sign-of-value, round-is, floor-is, ceil-is}
 

@@ -19,10 +19,10 @@ use lib.Ieee.Scale.{finite}
 use Rattle.binary64.specs.Value.{unit, sizeOf, halfUp, cutDown, cutUp, negative, signed, scaled, roundAway}
 use Rattle.binary64.specs.declared.Direction.{Direction}
 use Rattle.binary64.specs.declared.Direction.the-variants.{Nearest, Down, Up}
-use Rattle.binary64.specs.Whole.{rounded, sizeToward}
+use Rattle.binary64.specs.code.Whole.{rounded, sizeToward}
 use Rattle.binary64.specs.Step.{orderedBits, ordered, oneStep, nearestDouble}
 use Rattle.binary64.proofs.ValueLaws.{size-of-value, sign-of-value}
-use Rattle.binary64.specs.Parts.{PartsOf}
+use Rattle.binary64.specs.code.Parts.{PartsOf}
 use Rattle.binary64.proofs.PartsLaws.{parts-zero, parts-suc, toward-parts}
 use Rattle.binary64.proofs.Order.{Below, signed→below, below→signed, signed-order, has-finite, half-up-order, rounded-order}
 

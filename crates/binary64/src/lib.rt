@@ -8,8 +8,8 @@ ghost use lib.Ieee.{binary64, ofBits, toBits};
 ghost use lib.Ieee.Scale.{finite};
 ghost use lib.Ieee.Positive.{positive};
 ghost use Rattle.binary64.specs.Value.{halfUp, cutDown, cutUp, signed};
-ghost use Rattle.binary64.specs.Parts.{PartsOf};
-ghost use Rattle.binary64.specs.Whole.{sizeToward};
+ghost use Rattle.binary64.specs.code.Parts.{PartsOf};
+ghost use Rattle.binary64.specs.code.Whole.{sizeToward};
 ghost use Rattle.binary64.specs.Step.{orderedBits, oneStep};
 
 // A pattern is the sign, 11 bits of the exponent's field, and 52 binary digits.

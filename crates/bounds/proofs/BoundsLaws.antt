@@ -18,7 +18,7 @@ use Rattle.conversion.specs.declared.CallerPolicy.the-variants as C
 use Rattle.conversion.specs.Made.{Made, refused, made, pure, _>>=_}
 use Rattle.conversion.specs.Policy.{callerPolicy}
 use Rattle.conversion.specs.Convert.{databaseValue}
-use Rattle.conversion.specs.Answer.{callerOf, valueOf}
+use Rattle.conversion.specs.code.Answer.{callerOf, valueOf}
 use Rattle.conversion.proofs.MadeLaws.{Yields, no-yield, made-yields, steps, need-on, need-off, refused-on, pure-on}
 use Rattle.conversion.proofs.PolicyLaws.{Caller, unnamed, noUnit, passes, caller, caller-refused, caller-policy}
 use Rattle.bounds.specs.declared.RangeAnswer.{RangeAnswer}

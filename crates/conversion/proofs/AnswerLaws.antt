@@ -18,7 +18,7 @@ use Rattle.conversion.specs.declared.DatabaseValue.{DatabaseValue}
 use Rattle.conversion.specs.declared.DatabaseValue.the-variants as D
 use Rattle.conversion.specs.Made.{refused, made, pure, _>>=_}
 use Rattle.conversion.specs.Convert.{Spot, deviations, ranged, gridValue, databaseValue, convertPhysical, physicalValue, convertBy, convertUnit, arrayEndpoint}
-use Rattle.conversion.specs.Answer.{valueOf}
+use Rattle.conversion.specs.code.Answer.{valueOf}
 use Rattle.conversion.proofs.MadeLaws.{need-on, need-off, refused-on, pure-on}
 
 -- ---- the database value

@@ -14,7 +14,7 @@ use Rattle.conversion.specs.declared.Deviation.{Deviation}
 use Rattle.conversion.specs.declared.Entry.{Entry}
 use Rattle.conversion.specs.Entry.{firstEntry, takes, takesAll, entryOf}
 use Rattle.conversion.specs.Made.{Made, refused, made, pure, after, need, _>>=_, _>>_}
-use Rattle.conversion.specs.Fold.{blankEntry, noted, notedAll, standing, run}
+use Rattle.conversion.specs.code.Fold.{blankEntry, noted, notedAll, standing, run}
 
 -- ---- one deviation, with z for its database value
 

@@ -14,7 +14,7 @@ use borrow.Author.Tests.{ltb-true, ltb-false, lt-ltb, le-ltb}
 use mir.Val.{SFits}
 use mir.Syntax.{w32}
 use Rattle.binary64.specs.Value.{unit, negative, signed, roundAway, floorOf, ceilOf}
-use Rattle.binary64.specs.Parts.{PartsOf}
+use Rattle.binary64.specs.code.Parts.{PartsOf}
 use Rattle.binary64.specs.Step.{oneStep}
 use Rattle.binary64.proofs.WholeLaws.{nearest-up}
 use Rattle.binary64.proofs.PartsLaws.{round-parts, floor-parts, ceil-parts}

@@ -15,7 +15,7 @@ use Rattle.conversion.specs.declared.CallerPolicy.{CallerPolicy}
 use Rattle.conversion.specs.declared.CallerPolicy.the-variants as C
 use Rattle.conversion.specs.Made.{Made, refused, pure, need, _>>=_, _>>_}
 use Rattle.conversion.specs.Policy.{policyOf, maxPolicy, named, callerPolicy}
-use Rattle.conversion.specs.Answer.{callerOf}
+use Rattle.conversion.specs.code.Answer.{callerOf}
 use Rattle.conversion.proofs.MadeLaws.{need-on, need-off, pure-then, refused-then, refused-on, pure-on}
 
 -- no policy has a number above 3

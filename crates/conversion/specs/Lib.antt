@@ -7,5 +7,4 @@ pub mod Convert
 pub mod Points
 pub mod Array
 pub mod Close
-pub mod Answer
-pub mod Fold
+pub mod code

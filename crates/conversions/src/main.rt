@@ -3,7 +3,7 @@ ghost use mathlib.Core.Path.{_≡_};
 ghost use Prim.Native.Nat.{_+_, _*_, _/_, _≤_};
 ghost use lib.ListN.{length};
 ghost use Rattle.conversion.specs.Convert.{Spot};
-ghost use Rattle.conversion.specs.Answer.{outcome};
+ghost use Rattle.conversion.specs.code.Answer.{outcome};
 ghost use Rattle.conversions.specs.Case as Case;
 ghost use Rattle.conversions.specs.Case.{doubleAt, signedAt, policyOf, unitAt, convertedAt, answerOf, rangeAnswer, rangeAt, surveyAnswer, surveyAt, answerAt, differing};
 use bounds::RangeAnswer;

@@ -18,10 +18,10 @@ use Rattle.conversion.specs.declared.Conversion.the-variants as C
 use Rattle.conversion.specs.declared.Deviation.{Deviation}
 use Rattle.conversion.specs.declared.Entry.{Entry}
 use Rattle.conversion.specs.declared.GdsRoundingPolicy.{GdsRoundingPolicy}
-use Rattle.conversion.specs.Answer.{outcome}
+use Rattle.conversion.specs.code.Answer.{outcome}
 use Rattle.conversion.specs.Convert.{Spot, convertUnit}
 use Rattle.conversion.specs.Field.{xAxis, yAxis}
-use Rattle.conversion.specs.Fold.{noted, notedAll, run}
+use Rattle.conversion.specs.code.Fold.{noted, notedAll, run}
 use Rattle.conversion.specs.Made.{Made, pure, _>>=_}
 use Rattle.conversion.specs.Points.{spot, writePoint}
 use Rattle.conversion.proofs.FoldLaws.{noted-count, run-bind, run-pure}
@@ -32,7 +32,7 @@ use Rattle.coordinate.specs.declared.Valued.the-variants as G
 use Rattle.coordinate.specs.declared.Plain.the-variants as L
 use Rattle.coordinate.specs.declared.Pointed.{Pointed}
 use Rattle.coordinate.specs.declared.Pointed.the-variants as P
-use Rattle.coordinate.specs.Coordinate.{valued, ValueGrown, Values, pointed, Converts, both, plainOf}
+use Rattle.coordinate.specs.code.Coordinate.{valued, ValueGrown, Values, pointed, Converts, both, plainOf}
 
 -- ---- a conversion's answer. z and w are what the machine reads back of the value q.
 

@@ -1,2 +1,2 @@
 -- What the code answers for a value and a point of the grid.
-pub mod Coordinate
+pub mod code

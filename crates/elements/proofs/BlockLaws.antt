@@ -10,15 +10,15 @@ use Rattle.refusal.specs.declared.Refusal.the-variants as R
 use Rattle.conversion.specs.declared.GdsRoundingPolicy.{GdsRoundingPolicy}
 use Rattle.conversion.specs.declared.Deviation.{Deviation}
 use Rattle.conversion.specs.Made.{Made, refused, made}
-use Rattle.conversion.specs.Fold.{blankEntry, notedAll, run}
+use Rattle.conversion.specs.code.Fold.{blankEntry, notedAll, run}
 use Rattle.sheet.specs.Element.{Element, kindOf, elementOf}
 use Rattle.stream.specs.Structure.{Said}
 use Rattle.stream.specs.Records.{elementBytes}
 use Rattle.cell.specs.Write.{writeElement}
 use Rattle.writing.specs.declared.Measured.{Measured}
 use Rattle.writing.specs.declared.Measured.the-variants as M
-use Rattle.writing.specs.Steps.{sizing}
-use Rattle.elements.specs.Block.{measuredBlock}
+use Rattle.writing.specs.code.Steps.{sizing}
+use Rattle.elements.specs.code.Block.{measuredBlock}
 
 -- ill-formed, refused or written, with what its measuring answers
 pub data Met (policy : GdsRoundingPolicy) (d : Float) (i : ℕ) (b : List ℕ) : Measured → Type 0 where

@@ -11,7 +11,7 @@ use Rattle.stream.specs.Structure as D
 use Rattle.cell.specs.Write.{writePolygon, writePath, writeText, writeNode, writeReference, writeBody}
 use Rattle.writing.specs.declared.Measured.{Measured}
 use Rattle.writing.specs.declared.Written.{Written}
-use Rattle.writing.specs.Steps.{Measures, Succeeds, Writes}
+use Rattle.writing.specs.code.Steps.{Measures, Succeeds, Writes}
 use Rattle.writing.proofs.StepLaws.{yields, succeeds, measure-wrapped, write-wrapped}
 use Rattle.forms.specs.declared.ShapePlaces.{ShapePlaces}
 use Rattle.forms.specs.declared.PathPlaces.{PathPlaces}
@@ -19,12 +19,12 @@ use Rattle.forms.specs.declared.TextPlaces.{TextPlaces}
 use Rattle.forms.specs.declared.ReferencePlaces.{ReferencePlaces}
 use Rattle.forms.specs.declared.BodyPlaces.{BodyPlaces}
 use Rattle.forms.specs.declared.BodyPlaces.the-variants as B
-use Rattle.forms.specs.Forms.{shapeAt, pathAt, textAt, referenceAt, bodyAt, BodyIn}
-use Rattle.shape.specs.Shape.{polygonBytes, nodeBytes}
-use Rattle.path.specs.Length.{pathBytes}
-use Rattle.text.specs.Text.{textBytes}
-use Rattle.reference.specs.Reference.{referenceBytes}
-use Rattle.elements.specs.Block.{bodyBytes}
+use Rattle.forms.specs.code.Forms.{shapeAt, pathAt, textAt, referenceAt, bodyAt, BodyIn}
+use Rattle.shape.specs.code.Shape.{polygonBytes, nodeBytes}
+use Rattle.path.specs.code.Length.{pathBytes}
+use Rattle.text.specs.code.Text.{textBytes}
+use Rattle.reference.specs.code.Reference.{referenceBytes}
+use Rattle.elements.specs.code.Block.{bodyBytes}
 
 -- in the arms of a `match` on the body
 pub body-in-as : (b : List ℕ) {s t : BodyPlaces} → s ≡ t → BodyIn b s → BodyIn b t

@@ -21,22 +21,22 @@ use Rattle.records.proofs.RecordLaws.{length-record}
 use Rattle.forms.specs.declared.BodyPlaces.{BodyPlaces}
 use Rattle.forms.specs.declared.BodyPlaces.the-variants as B
 use Rattle.forms.specs.declared.ShapePlaces.{ShapePlaces}
-use Rattle.forms.specs.Place.{valuesFrom, placeFrom, propertyAt, propertyEnd, propertiesFrom}
-use Rattle.forms.specs.Forms.{shapeAt, pathAt, bodyAt, BodyIn}
+use Rattle.forms.specs.code.Place.{valuesFrom, placeFrom, propertyAt, propertyEnd, propertiesFrom}
+use Rattle.forms.specs.code.Forms.{shapeAt, pathAt, bodyAt, BodyIn}
 use Rattle.points.proofs.WalkLaws.{length-from}
-use Rattle.transform.specs.Strans.{transformLength}
+use Rattle.transform.specs.code.Strans.{transformLength}
 use Rattle.transform.proofs.StransLaws.{length-small}
-use Rattle.shape.specs.Shape.{polygonBytes, nodeBytes, shapeLength}
+use Rattle.shape.specs.code.Shape.{polygonBytes, nodeBytes, shapeLength}
 use Rattle.shape.proofs.ShapeLaws.{shape-length}
-use Rattle.path.specs.Length.{pathBytes, pathLength, headLength}
+use Rattle.path.specs.code.Length.{pathBytes, pathLength, headLength}
 use Rattle.path.proofs.PathLaws.{path-length}
-use Rattle.text.specs.Text.{textBytes, textLength}
+use Rattle.text.specs.code.Text.{textBytes, textLength}
 use Rattle.text.proofs.TextLaws.{text-length}
-use Rattle.reference.specs.Reference.{referenceBytes, singleRest, arrayRest, isSingle, referenceLength}
+use Rattle.reference.specs.code.Reference.{referenceBytes, singleRest, arrayRest, isSingle, referenceLength}
 use Rattle.reference.proofs.RecordLaws.{reference-length}
-use Rattle.properties.specs.Tail.{said, propertyBytes, tailBytes, tailLength}
+use Rattle.properties.specs.code.Tail.{said, propertyBytes, tailBytes, tailLength}
 use Rattle.properties.proofs.TailLaws.{length-property, tail-cons, tail-nil, place-up}
-use Rattle.elements.specs.Block.{bodyBytes, bodyLength}
+use Rattle.elements.specs.code.Block.{bodyBytes, bodyLength}
 
 -- ---- the body
 

@@ -11,25 +11,25 @@ use Rattle.conversion.specs.declared.Deviation.{Deviation}
 use Rattle.conversion.specs.declared.GdsRoundingPolicy.{GdsRoundingPolicy}
 use Rattle.conversion.specs.declared.Entry.{Entry}
 use Rattle.conversion.specs.Made.{Made, refused, made}
-use Rattle.conversion.specs.Fold.{blankEntry, run}
+use Rattle.conversion.specs.code.Fold.{blankEntry, run}
 use Rattle.sheet.specs.Element.{kindOf, elementOf}
 use Rattle.stream.specs.Structure.{Property, SaidBody, Said}
 use Rattle.stream.specs.Records.{elementBytes}
 use Rattle.cell.specs.Write.{writeBody, writeProperties, writeElement}
 use Rattle.writing.specs.declared.Measured.{Measured}
 use Rattle.writing.specs.declared.Measured.the-variants as M
-use Rattle.writing.specs.Steps.{sizing, Measures}
+use Rattle.writing.specs.code.Steps.{sizing, Measures}
 use Rattle.writing.proofs.StepLaws.{measure-first-refused, measure-second-refused, measure-both}
 use Rattle.forms.specs.declared.BodyPlaces.{BodyPlaces}
 use Rattle.forms.specs.declared.PropertyPlaces.{PropertyPlaces}
 use Rattle.forms.specs.declared.ElementForm.{ElementForm}
 use Rattle.forms.specs.declared.ElementForm.the-variants as E
-use Rattle.forms.specs.Place.{placeFrom, propertyEnd}
-use Rattle.forms.specs.Forms.{bodyAt, propertiesAt, ElementIn}
-use Rattle.forms.specs.Checks.{ElementRead}
+use Rattle.forms.specs.code.Place.{placeFrom, propertyEnd}
+use Rattle.forms.specs.code.Forms.{bodyAt, propertiesAt, ElementIn}
+use Rattle.forms.specs.code.Checks.{ElementRead}
 use Rattle.forms.proofs.ElementLaws.{element-as}
-use Rattle.properties.specs.Tail.{tailBytes}
-use Rattle.elements.specs.Block.{bodyBytes, measuredBlock}
+use Rattle.properties.specs.code.Tail.{tailBytes}
+use Rattle.elements.specs.code.Block.{bodyBytes, measuredBlock}
 use Rattle.elements.proofs.LengthLaws.{body-length, body-short, tail-length, tail-short}
 use Rattle.elements.proofs.SplitLaws.{element-split}
 

@@ -8,7 +8,7 @@ use lib.Ieee.{Float}
 use Rattle.big_endian.proofs.BufferLaws.{length-at}
 use Rattle.conversion.specs.declared.Entry.{Entry}
 use Rattle.conversion.specs.declared.GdsRoundingPolicy.{GdsRoundingPolicy}
-use Rattle.conversion.specs.Fold.{blankEntry}
+use Rattle.conversion.specs.code.Fold.{blankEntry}
 use Rattle.conversion.specs.Made.{Made}
 use Rattle.conversion.proofs.MadeLaws.{Yields, made-yields, steps}
 use Rattle.sheet.specs.Element.{Element, kindOf}
@@ -16,18 +16,18 @@ use Rattle.stream.specs.Structure as D
 use Rattle.stream.specs.Records.{elementBytes}
 use Rattle.cell.specs.Write.{writeBody, writeProperties, writeElement}
 use Rattle.writing.specs.declared.Written.{Written}
-use Rattle.writing.specs.Steps.{Succeeds, Writes}
+use Rattle.writing.specs.code.Steps.{Succeeds, Writes}
 use Rattle.writing.proofs.StepLaws.{succeeds, write-both}
 use Rattle.forms.specs.declared.BodyPlaces.{BodyPlaces}
 use Rattle.forms.specs.declared.PropertyPlaces.{PropertyPlaces}
 use Rattle.forms.specs.declared.ElementForm.{ElementForm}
 use Rattle.forms.specs.declared.ElementForm.the-variants as E
-use Rattle.forms.specs.Place.{placeFrom, propertyEnd}
-use Rattle.forms.specs.Forms.{bodyAt, propertiesAt, BodyIn}
-use Rattle.forms.specs.Checks.{ElementRead}
+use Rattle.forms.specs.code.Place.{placeFrom, propertyEnd}
+use Rattle.forms.specs.code.Forms.{bodyAt, propertiesAt, BodyIn}
+use Rattle.forms.specs.code.Checks.{ElementRead}
 use Rattle.forms.proofs.ElementLaws.{element-as}
-use Rattle.properties.specs.Tail.{tailBytes, tailLength}
-use Rattle.elements.specs.Block.{bodyBytes, bodyLength, Fits, WritesBlock}
+use Rattle.properties.specs.code.Tail.{tailBytes, tailLength}
+use Rattle.elements.specs.code.Block.{bodyBytes, bodyLength, Fits, WritesBlock}
 use Rattle.elements.proofs.LengthLaws.{body-length, tail-length}
 use Rattle.elements.proofs.SplitLaws.{element-split}
 

@@ -6,8 +6,8 @@ use Rattle.stream.specs.Structure.{Property, SaidBody}
 use Rattle.stream.specs.Records.{bodyRecords, tailRecords, elementBytes}
 use Rattle.stream.proofs.AppendLaws.{body-append}
 use Rattle.stream.proofs.BytesLaws.{stream-append}
-use Rattle.properties.specs.Tail.{tailBytes}
-use Rattle.elements.specs.Block.{bodyBytes}
+use Rattle.properties.specs.code.Tail.{tailBytes}
+use Rattle.elements.specs.code.Block.{bodyBytes}
 
 pub element-split : (w : SaidBody) (qs : List Property) → elementBytes (record { body = w; properties = qs }) ≡ bodyBytes w ++ tailBytes qs
 unfolding elementBytes bodyBytes tailBytes

@@ -1,2 +1,2 @@
 -- What measuring and writing one element answer, and its length by the block alone.
-pub mod Block
+pub mod code

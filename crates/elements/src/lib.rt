@@ -13,9 +13,9 @@ ghost use lib.ListN.{length};
 ghost use Rattle.sheet.specs.Element.{kindOf, elementOf};
 ghost use Rattle.stream.specs.Records.{elementBytes};
 ghost use Rattle.cell.specs.Write.{writeBody, writeElement};
-ghost use Rattle.forms.specs.Forms.{bodyAt, propertiesAt, BodyIn, ElementIn};
-ghost use Rattle.writing.specs.Steps.{Measures, Succeeds, Writes};
-ghost use Rattle.elements.specs.Block.{bodyBytes, bodyLength, measuredBlock, Short, Fits, WritesBlock};
+ghost use Rattle.forms.specs.code.Forms.{bodyAt, propertiesAt, BodyIn, ElementIn};
+ghost use Rattle.writing.specs.code.Steps.{Measures, Succeeds, Writes};
+ghost use Rattle.elements.specs.code.Block.{bodyBytes, bodyLength, measuredBlock, Short, Fits, WritesBlock};
 
 // The kinds of the report's entries.
 const POLYGON: u8 = 1;

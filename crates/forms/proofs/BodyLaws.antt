@@ -10,8 +10,8 @@ use Rattle.sheet.specs.Form.{Form}
 use Rattle.sheet.specs.Element.{Body, polygonKind, pathKind, textKind, nodeKind, referenceKind, bodyForm}
 use Rattle.forms.specs.declared.BodyPlaces.{BodyPlaces}
 use Rattle.forms.specs.declared.BodyForm.the-variants as F
-use Rattle.forms.specs.Forms.{bodyAt, BodyIn}
-use Rattle.forms.specs.Checks.{BodyRead}
+use Rattle.forms.specs.code.Forms.{bodyAt, BodyIn}
+use Rattle.forms.specs.code.Checks.{BodyRead}
 use Rattle.forms.proofs.Step.{on, off}
 
 -- the last step of a form, after a part that was checked

@@ -16,8 +16,8 @@ use Rattle.forms.specs.declared.PropertiesForm.{PropertiesForm}
 use Rattle.forms.specs.declared.PropertiesForm.the-variants as P
 use Rattle.forms.specs.declared.ElementForm.{ElementForm}
 use Rattle.forms.specs.declared.ElementForm.the-variants as E
-use Rattle.forms.specs.Forms.{bodyAt}
-use Rattle.forms.specs.Checks.{PropertiesRead, BodyRead, ElementRead}
+use Rattle.forms.specs.code.Forms.{bodyAt}
+use Rattle.forms.specs.code.Checks.{PropertiesRead, BodyRead, ElementRead}
 use Rattle.forms.proofs.Step.{on, off, num-at}
 use Rattle.forms.proofs.Sized.{sized-num}
 

@@ -12,9 +12,9 @@ use Rattle.sheet.specs.Form.{num}
 use Rattle.sheet.specs.Element.{Head, headForm, headOf}
 use Rattle.forms.specs.declared.HeadPlaces.{HeadPlaces}
 use Rattle.forms.specs.declared.HeadForm.the-variants as H
-use Rattle.forms.specs.Place.{wordsFrom, stringAt, stringEnd}
-use Rattle.forms.specs.Forms.{headAt}
-use Rattle.forms.specs.Checks.{HeadRead}
+use Rattle.forms.specs.code.Place.{wordsFrom, stringAt, stringEnd}
+use Rattle.forms.specs.code.Forms.{headAt}
+use Rattle.forms.specs.code.Checks.{HeadRead}
 use Rattle.forms.proofs.Step.{on, off, string-at, string-long, ends, ends-not}
 use Rattle.forms.proofs.Sized.{sized-num, sized-times, string-needs}
 use Rattle.forms.proofs.Walk.{words-at}

@@ -15,9 +15,9 @@ use Rattle.sheet.specs.Element.{Path, path, pathKind, pathTypeForm, pathForm, b
 use Rattle.forms.specs.declared.PathPlaces.{PathPlaces}
 use Rattle.forms.specs.declared.BodyPlaces.the-variants as B
 use Rattle.forms.specs.declared.BodyForm.the-variants as F
-use Rattle.forms.specs.Place.{coordinateAt, pointsFrom}
-use Rattle.forms.specs.Forms.{pathTypeOf, pathAt}
-use Rattle.forms.specs.Checks.{Checked, BodyRead}
+use Rattle.forms.specs.code.Place.{coordinateAt, pointsFrom}
+use Rattle.forms.specs.code.Forms.{pathTypeOf, pathAt}
+use Rattle.forms.specs.code.Checks.{Checked, BodyRead}
 use Rattle.forms.proofs.Step.{on, off, num-at, layer-type, when-is, checked, failed}
 use Rattle.forms.proofs.Sized.{Sized, sized-num, sized-bind, sized-cond, sized-when, sized-pure, sized-coordinate, sized-times, sized-point, sized-within}
 use Rattle.forms.proofs.Sized.{Needs, needs-bind, needs-front, counted-needs}

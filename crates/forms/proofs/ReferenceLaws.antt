@@ -14,9 +14,9 @@ use Rattle.sheet.specs.Element.{Reference, reference, referenceKind, referenceF
 use Rattle.forms.specs.declared.ReferencePlaces.{ReferencePlaces}
 use Rattle.forms.specs.declared.BodyPlaces.the-variants as B
 use Rattle.forms.specs.declared.BodyForm.the-variants as F
-use Rattle.forms.specs.Place.{doubleAt, pointAt, spacingAt, stringAt, stringEnd}
-use Rattle.forms.specs.Forms.{referenceAt, referencePlaces}
-use Rattle.forms.specs.Checks.{BodyRead}
+use Rattle.forms.specs.code.Place.{doubleAt, pointAt, spacingAt, stringAt, stringEnd}
+use Rattle.forms.specs.code.Forms.{referenceAt, referencePlaces}
+use Rattle.forms.specs.code.Checks.{BodyRead}
 use Rattle.forms.proofs.Step.{on, off, moved, num-at, double-at, string-at, string-long, flag-at, flag-ill}
 use Rattle.forms.proofs.Sized.{sized-num, sized-flag, sized-double, sized-point, sized-spacing, Needs, needs-bind, needs-front, string-needs}
 use Rattle.forms.proofs.BodyLaws.{body-ill, body-is}

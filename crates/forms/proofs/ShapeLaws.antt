@@ -12,9 +12,9 @@ use Rattle.sheet.specs.Element.{polygon, node, polygonKind, nodeKind, shapeForm
 use Rattle.forms.specs.declared.ShapePlaces.{ShapePlaces}
 use Rattle.forms.specs.declared.BodyPlaces.the-variants as B
 use Rattle.forms.specs.declared.BodyForm.the-variants as F
-use Rattle.forms.specs.Place.{pointsFrom}
-use Rattle.forms.specs.Forms.{shapeAt, ShapeIn}
-use Rattle.forms.specs.Checks.{Checked, BodyRead}
+use Rattle.forms.specs.code.Place.{pointsFrom}
+use Rattle.forms.specs.code.Forms.{shapeAt, ShapeIn}
+use Rattle.forms.specs.code.Checks.{Checked, BodyRead}
 use Rattle.forms.proofs.Step.{layer-type, checked, failed}
 use Rattle.forms.proofs.Sized.{sized-num, sized-times, sized-point, sized-within, Needs, needs-bind, needs-front, counted-needs}
 use Rattle.forms.proofs.PropertyLaws.{counted-at}

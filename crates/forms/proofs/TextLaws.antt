@@ -12,9 +12,9 @@ use Rattle.sheet.specs.Element.{Text, text, textKind, textForm, bodyForm}
 use Rattle.forms.specs.declared.TextPlaces.{TextPlaces}
 use Rattle.forms.specs.declared.BodyPlaces.the-variants as B
 use Rattle.forms.specs.declared.BodyForm.the-variants as F
-use Rattle.forms.specs.Place.{doubleAt, pointAt, stringEnd}
-use Rattle.forms.specs.Forms.{textAt}
-use Rattle.forms.specs.Checks.{BodyRead}
+use Rattle.forms.specs.code.Place.{doubleAt, pointAt, stringEnd}
+use Rattle.forms.specs.code.Forms.{textAt}
+use Rattle.forms.specs.code.Checks.{BodyRead}
 use Rattle.forms.proofs.Step.{on, off, layer-type, double-at, string-at, string-long, flag-at, flag-ill}
 use Rattle.forms.proofs.Sized.{sized-num, sized-code, sized-flag, sized-double, sized-point, Needs, needs-bind, needs-front, string-needs}
 use Rattle.forms.proofs.BodyLaws.{body-ill, body-is}

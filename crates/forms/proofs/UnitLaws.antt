@@ -14,7 +14,7 @@ use Rattle.big_endian.specs.Big.{Bytes, numberAt}
 use Rattle.big_endian.proofs.PlaceLaws.{number-two, number-four, number-eight}
 use Rattle.units.specs.declared.Unit.the-variants as U
 use Rattle.sheet.specs.Form.{integerKind}
-use Rattle.forms.specs.Place.{doubleAt, unitAt}
+use Rattle.forms.specs.code.Place.{doubleAt, unitAt}
 
 -- ---- signed numbers
 

@@ -1,4 +1,2 @@
 -- The form of a block by places: what stands where, and what the checks of a form promise.
-pub mod Place
-pub mod Forms
-pub mod Checks
+pub mod code

@@ -8,9 +8,9 @@ ghost use Rattle.big_endian.specs.Big.{numberAt};
 ghost use Rattle.parsing.specs.Parse.{times};
 ghost use Rattle.sheet.specs.Form as Form;
 ghost use Rattle.sheet.specs.Element as Element;
-ghost use Rattle.forms.specs.Place.{doubleAt, unitAt, coordinateAt, pointAt, pointsFrom, spacingAt, stringAt, stringEnd};
-ghost use Rattle.forms.specs.Forms.{pathTypeOf, referencePlaces};
-ghost use Rattle.forms.specs.Checks.{given, Checked, PropertiesRead, BodyRead, HeadRead, ElementRead};
+ghost use Rattle.forms.specs.code.Place.{doubleAt, unitAt, coordinateAt, pointAt, pointsFrom, spacingAt, stringAt, stringEnd};
+ghost use Rattle.forms.specs.code.Forms.{pathTypeOf, referencePlaces};
+ghost use Rattle.forms.specs.code.Checks.{given, Checked, PropertiesRead, BodyRead, HeadRead, ElementRead};
 
 // The kind byte of a coordinate.
 pub const INTEGER: u8 = 0;

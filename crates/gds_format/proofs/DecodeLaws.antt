@@ -18,7 +18,7 @@ use lib.Ieee.Fits.{round-fits}
 use lib.Ieee.Exact.{HasValue, round-exact}
 use lib.Ieee.Scale.{finite}
 use Rattle.binary64.specs.Value.{unit, sizeOf, negative, signed, scaled, sameInt, zero64}
-use Rattle.binary64.specs.Parts.{PartsOf}
+use Rattle.binary64.specs.code.Parts.{PartsOf}
 use Rattle.binary64.proofs.ValueLaws.{size-of-value, sign-of-value}
 use Rattle.binary64.proofs.PartsLaws.{parts-zero, parts-suc}
 use Rattle.binary64.proofs.Signed.{scaled-zero}

@@ -15,7 +15,7 @@ use lib.Pow.{pow-add, pow-pos, pow-mono, shl-lt}
 use Rattle.big_endian.specs.Big.{bytesOf}
 use Rattle.big_endian.proofs.BigLaws.{number-bytesOf, length-bytesOf}
 use Rattle.big_endian.proofs.BytesLaws.{bytes-bytesOf}
-use Rattle.binary64.specs.Parts.{PartsOf}
+use Rattle.binary64.specs.code.Parts.{PartsOf}
 use Rattle.binary64.specs.Value.{sizeOf, signed}
 use Rattle.binary64.proofs.PartsLaws.{parts-zero, parts-suc, power-under, power-over}
 use Rattle.binary64.proofs.Powers.{pow-lt-back}

@@ -8,8 +8,8 @@ use native.Mathlib.Nat.{eq-zero-or-pos, le-of-suc-le-suc, lt-of-not-le, lt-of-mu
 use native.Mathlib.Omega.{arith}
 use lib.Pow.{pow-pos, pow-add, pow-mono}
 use lib.Ieee.{binary64, round, sum}
-use Rattle.mul_add.specs.Jam.{jam}
-use Rattle.mul_add.specs.Normal.{Ready}
+use Rattle.mul_add.specs.code.Jam.{jam}
+use Rattle.mul_add.specs.code.Normal.{Ready}
 use Rattle.binary64.proofs.Powers.{times₂, same-pow, sum-to}
 use Rattle.mul_add.proofs.DigitLaws.{not-zero}
 use Rattle.mul_add.proofs.JamLaws.{Loose, loose-scale, round-loose, jam-exact, jam-loose}

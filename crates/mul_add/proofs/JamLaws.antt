@@ -13,7 +13,7 @@ use lib.Pow.{pow-add, pow-pos}
 use lib.Ieee.{Format, prec, round}
 use lib.Ieee.Bits.{is-false}
 use lib.Ieee.Nearest.{div-same}
-use Rattle.mul_add.specs.Jam.{sticky, jam}
+use Rattle.mul_add.specs.code.Jam.{sticky, jam}
 use Rattle.binary64.proofs.Powers.{same-pow, times₂}
 use Rattle.mul_add.proofs.DigitLaws.{not-zero}
 use Rattle.mul_add.proofs.LeadingLaws.{leading, below, whole, round-leading}

@@ -7,8 +7,8 @@ use lib.Pow.{pow-add, pow-pos, shl-lt}
 use lib.Count.{leadingZeros}
 use Rattle.binary64.proofs.Powers.{pow-lt-back, times₂, same-pow}
 use Rattle.binary64.specs.Value.{unit}
-use Rattle.mul_add.specs.Places.{word, scale, raise, addend, excess}
-use Rattle.mul_add.specs.Normal.{Normal, Ready}
+use Rattle.mul_add.specs.code.Places.{word, scale, raise, addend, excess}
+use Rattle.mul_add.specs.code.Normal.{Normal, Ready}
 use Rattle.mul_add.proofs.DigitLaws.{not-zero}
 use Rattle.mul_add.proofs.LeadLaws.{Lead, lead}
 

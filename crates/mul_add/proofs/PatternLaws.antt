@@ -20,8 +20,8 @@ use lib.Ieee.Scale.{overflow, round-same}
 use Rattle.binary64.proofs.Half.{kept-ge}
 use Rattle.binary64.specs.Value.{unit, sizeOf}
 use Rattle.binary64.proofs.ValueLaws.{size-of-value}
-use Rattle.mul_add.specs.Places.{word, scale, unitPlace, excess, normalFrom, infiniteFrom, hidden, signBit, infinity}
-use Rattle.mul_add.specs.Pattern.{Pattern}
+use Rattle.mul_add.specs.code.Places.{word, scale, unitPlace, excess, normalFrom, infiniteFrom, hidden, signBit, infinity}
+use Rattle.mul_add.specs.code.Pattern.{Pattern}
 use Rattle.binary64.proofs.Powers.{same-pow, pow-le-back, times₂, times₃}
 use Rattle.mul_add.proofs.DigitLaws.{size-is}
 

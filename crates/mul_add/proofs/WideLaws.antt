@@ -10,9 +10,9 @@ use lib.Pow.{pow-add, pow-pos, pow-mono, shr-lt, shl-shr, mod-pow-add}
 use lib.Ieee.Nearest.{div-same}
 use Rattle.binary64.proofs.Powers.{same-pow, sum-to, pow-split}
 use Rattle.binary64.proofs.Tests.{both-ways}
-use Rattle.mul_add.specs.Places.{word}
-use Rattle.mul_add.specs.Wide.{wide}
-use Rattle.mul_add.specs.Jam.{sticky, jam}
+use Rattle.mul_add.specs.code.Places.{word}
+use Rattle.mul_add.specs.code.Wide.{wide}
+use Rattle.mul_add.specs.code.Jam.{sticky, jam}
 use Rattle.mul_add.proofs.LeadLaws.{Lead}
 use Rattle.mul_add.proofs.HalfEvenLaws.{cut-back}
 use Rattle.mul_add.proofs.JamLaws.{jam-none, jam-some, jam-between}

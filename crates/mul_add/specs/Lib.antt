@@ -1,6 +1,2 @@
 -- What the steps of `mul_add` promise: numbers of two words, the sticky bit, normal digits, and the pattern of a rounded number.
-pub mod Places
-pub mod Wide
-pub mod Jam
-pub mod Normal
-pub mod Pattern
+pub mod code

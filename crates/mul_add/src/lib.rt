@@ -12,7 +12,7 @@ ghost use lib.Dec.{T};
 ghost use lib.Ieee.{binary64};
 ghost use lib.Ieee.Scale.{finite};
 ghost use Rattle.binary64.specs.Fma.{fma};
-ghost use Rattle.mul_add.specs.Normal.{Normal};
+ghost use Rattle.mul_add.specs.code.Normal.{Normal};
 use add::add;
 use places::ADDEND;
 use places::WORD;

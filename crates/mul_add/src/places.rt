@@ -1,4 +1,4 @@
-// The places that are counted with. specs/Places.antt has the same names, and the reason of each.
+// The places that are counted with. specs/code/Places.antt has the same names, and the reason of each.
 
 // The binary digits of a word.
 pub(crate) const WORD: u64 = 64;

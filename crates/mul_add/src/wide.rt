@@ -2,9 +2,9 @@
 ghost use mathlib.Core.Path.{_≡_};
 ghost use Prim.Native.Nat.{_+_, _-_, _*_, _^_, _≤_, _<_};
 ghost use lib.Dec.{ltb};
-ghost use Rattle.mul_add.specs.Places.{word, raise};
-ghost use Rattle.mul_add.specs.Wide.{wide};
-ghost use Rattle.mul_add.specs.Jam.{sticky, jam};
+ghost use Rattle.mul_add.specs.code.Places.{word, raise};
+ghost use Rattle.mul_add.specs.code.Wide.{wide};
+ghost use Rattle.mul_add.specs.code.Jam.{sticky, jam};
 use super::places::RAISE;
 use super::places::WORD;
 

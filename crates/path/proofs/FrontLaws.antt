@@ -18,7 +18,7 @@ use Rattle.big_endian.specs.Big.{numberAt}
 use Rattle.conversion.specs.declared.Entry.{Entry}
 use Rattle.conversion.specs.declared.GdsRoundingPolicy.{GdsRoundingPolicy}
 use Rattle.conversion.specs.Made.{Made, pure, need, _>>=_, _>>_}
-use Rattle.conversion.specs.Fold.{blankEntry, notedAll, run}
+use Rattle.conversion.specs.code.Fold.{blankEntry, notedAll, run}
 use Rattle.conversion.specs.Convert.{convertUnit}
 use Rattle.conversion.specs.Points.{spot, writePoints, writeLength}
 use Rattle.conversion.specs.Field.{widthField, beginField, endField, noAxis}
@@ -27,23 +27,23 @@ use Rattle.conversion.proofs.MadeLaws.{steps}
 use Rattle.sheet.specs.Form.{absentKind}
 use Rattle.sheet.specs.Element as S
 use Rattle.stream.specs.Structure as D
-use Rattle.records.specs.Bytes.{optionOf}
-use Rattle.writing.specs.Ready.{Ready, stopped, ready}
-use Rattle.writing.specs.Steps.{Succeeds}
+use Rattle.records.specs.code.Bytes.{optionOf}
+use Rattle.writing.specs.code.Ready.{Ready, stopped, ready}
+use Rattle.writing.specs.code.Steps.{Succeeds}
 use Rattle.writing.proofs.StepLaws.{yields, succeeds, past-check, past-checks}
 use Rattle.writing.proofs.ReadyLaws.{ready-stops, ready-goes-on, succeeds-as, never-stopped}
 use Rattle.cell.specs.Limits.{within, minPathPoints, maxPoints, maxLayer, maxDataType}
 use Rattle.cell.specs.Write.{isSome, layerAndType, writePath}
-use Rattle.forms.specs.Place.{unitAt, coordinateAt}
+use Rattle.forms.specs.code.Place.{unitAt, coordinateAt}
 use Rattle.coordinate.specs.declared.Valued.{Valued}
 use Rattle.coordinate.specs.declared.Valued.the-variants as G
-use Rattle.coordinate.specs.Coordinate.{ValueGrown, Values}
+use Rattle.coordinate.specs.code.Coordinate.{ValueGrown, Values}
 use Rattle.coordinate.proofs.ValueLaws.{value-stops, value-goes-on}
 use Rattle.path.specs.declared.Length.{Length}
 use Rattle.path.specs.declared.Length.the-variants as L
 use Rattle.path.specs.declared.Lengths.{Lengths}
 use Rattle.path.specs.declared.Lengths.the-variants as F
-use Rattle.path.specs.Front.{Extent, extent, writeExtent, writeFront, lengthOf, extentOf, LengthFits, GivesLength, GivesExtent}
+use Rattle.path.specs.code.Front.{Extent, extent, writeExtent, writeFront, lengthOf, extentOf, LengthFits, GivesLength, GivesExtent}
 
 -- ---- an answer handed on: a step's refusal, or what is left after its value
 

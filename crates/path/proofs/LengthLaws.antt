@@ -13,14 +13,14 @@ use Rattle.sheet.specs.Element as S
 use Rattle.stream.specs.Record.{Rec, PATH, LAYER, DATATYPE, PATHTYPE, WIDTH, BGNEXTN, ENDEXTN, XY, fourByte, recordBytes, streamBytes}
 use Rattle.stream.specs.Records.{emptyRecord, wordRecord, longRecord, xyRecord, pointsBytes, opt, pathRecords}
 use Rattle.big_endian.proofs.BufferLaws.{nothing-at}
-use Rattle.records.specs.Bytes.{headBytes, Placed, optBytes, optionOf}
+use Rattle.records.specs.code.Bytes.{headBytes, Placed, optBytes, optionOf}
 use Rattle.records.proofs.RecordLaws.{placed, then-placed, length-record, then-rest, then-opt}
 use Rattle.cell.specs.Write.{isSome}
-use Rattle.forms.specs.Forms.{pathTypeOf}
+use Rattle.forms.specs.code.Forms.{pathTypeOf}
 use Rattle.points.proofs.WalkLaws.{length-bytes}
-use Rattle.path.specs.Front.{Extent, extent}
+use Rattle.path.specs.code.Front.{Extent, extent}
 use Rattle.path.proofs.FrontLaws.{same-extent}
-use Rattle.path.specs.Length.{pathBytes, extentRecords, headRecords, pathHead, extentLength, headLength, pathLength}
+use Rattle.path.specs.code.Length.{pathBytes, extentRecords, headRecords, pathHead, extentLength, headLength, pathLength}
 
 -- ---- a flag and a value
 

@@ -17,28 +17,28 @@ use Rattle.conversion.specs.declared.Entry.{Entry}
 use Rattle.conversion.specs.declared.GdsRoundingPolicy.{GdsRoundingPolicy}
 use Rattle.conversion.specs.declared.Deviation.{Deviation}
 use Rattle.conversion.specs.Made.{Made, made}
-use Rattle.conversion.specs.Fold.{blankEntry, run}
+use Rattle.conversion.specs.code.Fold.{blankEntry, run}
 use Rattle.conversion.specs.Points.{writePoints, writeLength}
 use Rattle.conversion.specs.Field.{widthField, beginField, endField}
 use Rattle.conversion.proofs.FoldLaws.{run-bind, run-then, run-pure, run-map, run-same}
 use Rattle.sheet.specs.Element as S
 use Rattle.stream.specs.Structure as D
 use Rattle.stream.specs.Records.{pointsBytes}
-use Rattle.records.specs.Bytes.{Placed, optionOf}
+use Rattle.records.specs.code.Bytes.{Placed, optionOf}
 use Rattle.writing.specs.declared.Measured.{Measured}
 use Rattle.writing.specs.declared.Measured.the-variants as M
 use Rattle.writing.specs.declared.Written.{Written}
-use Rattle.writing.specs.Steps.{sizing, Measures, Writes}
+use Rattle.writing.specs.code.Steps.{sizing, Measures, Writes}
 use Rattle.writing.proofs.StepLaws.{run-through, stopped, written, putting, writes, outcome-of}
 use Rattle.cell.specs.Write.{isSome, writePath}
 use Rattle.points.specs.declared.Walked.{Walked}
 use Rattle.points.specs.declared.Walked.the-variants as W
-use Rattle.points.specs.Walk.{through, walked}
+use Rattle.points.specs.code.Walk.{through, walked}
 use Rattle.points.proofs.WalkLaws.{run-counted}
 use Rattle.path.specs.declared.Lengths.{Lengths}
 use Rattle.path.specs.declared.Lengths.the-variants as F
-use Rattle.path.specs.Front.{Extent, extent, writeExtent, writeFront, GivesExtent}
-use Rattle.path.specs.Length.{pathBytes, pathHead, headLength, pathLength}
+use Rattle.path.specs.code.Front.{Extent, extent, writeExtent, writeFront, GivesExtent}
+use Rattle.path.specs.code.Length.{pathBytes, pathHead, headLength, pathLength}
 use Rattle.path.proofs.FrontLaws.{same-extent, drawn, path-is, front-stops, front-goes-on}
 use Rattle.path.proofs.LengthLaws.{flag-is, path-split, length-path}
 

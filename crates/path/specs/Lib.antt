@@ -1,3 +1,2 @@
 -- A path's lengths on the grid, its bytes and their length.
-pub mod Front
-pub mod Length
+pub mod code

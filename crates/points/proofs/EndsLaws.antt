@@ -10,12 +10,12 @@ use Rattle.units.specs.Point.{Point}
 use Rattle.conversion.specs.declared.Deviation.{Deviation}
 use Rattle.conversion.specs.declared.Entry.{Entry}
 use Rattle.conversion.specs.Made.{Made, refused, made}
-use Rattle.conversion.specs.Fold.{notedAll, run}
+use Rattle.conversion.specs.code.Fold.{notedAll, run}
 use Rattle.writing.specs.declared.Measured.the-variants as M
-use Rattle.writing.specs.Steps.{sizing, Measures}
+use Rattle.writing.specs.code.Steps.{sizing, Measures}
 use Rattle.points.specs.declared.Walked.{Walked}
 use Rattle.points.specs.declared.Walked.the-variants as W
-use Rattle.points.specs.Walk.{through, walked}
+use Rattle.points.specs.code.Walk.{through, walked}
 
 -- ---- the ends are no refusal, and leave the entry as it is
 

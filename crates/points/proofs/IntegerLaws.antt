@@ -21,17 +21,17 @@ use Rattle.conversion.specs.declared.Entry.{Entry}
 use Rattle.conversion.specs.declared.GdsRoundingPolicy.{GdsRoundingPolicy}
 use Rattle.conversion.specs.Convert.{Spot, convertBy, convertUnit}
 use Rattle.conversion.specs.Made.{Made, pure, _>>=_}
-use Rattle.conversion.specs.Fold.{notedAll, run}
+use Rattle.conversion.specs.code.Fold.{notedAll, run}
 use Rattle.conversion.specs.Points.{writePoint, writePoints}
 use Rattle.stream.specs.Records.{longBytes, pointsBytes}
-use Rattle.writing.specs.Steps.{Writes}
+use Rattle.writing.specs.code.Steps.{Writes}
 use Rattle.cell.specs.Write.{lastOf}
 use Rattle.sheet.specs.Form.{integerKind}
-use Rattle.forms.specs.Place.{valuesFrom, doubleAt, unitAt, pointAt, pointsFrom}
+use Rattle.forms.specs.code.Place.{valuesFrom, doubleAt, unitAt, pointAt, pointsFrom}
 use Rattle.forms.proofs.UnitLaws.{unit-integer}
 use Rattle.points.specs.declared.Walked.the-variants as W
-use Rattle.points.specs.Walk.{through, walked}
-use Rattle.points.specs.Integers.{integerAt, integersAt, integersFrom, Passes, AllPass}
+use Rattle.points.specs.code.Walk.{through, walked}
+use Rattle.points.specs.code.Integers.{integerAt, integersAt, integersFrom, Passes, AllPass}
 
 -- ---- a coordinate, by the bits of its unit
 

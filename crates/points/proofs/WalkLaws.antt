@@ -18,17 +18,17 @@ use Rattle.conversion.specs.declared.Deviation.{Deviation}
 use Rattle.conversion.specs.declared.Entry.{Entry}
 use Rattle.conversion.specs.declared.GdsRoundingPolicy.{GdsRoundingPolicy}
 use Rattle.conversion.specs.Made.{Made, made}
-use Rattle.conversion.specs.Fold.{blankEntry, run}
+use Rattle.conversion.specs.code.Fold.{blankEntry, run}
 use Rattle.conversion.specs.Points.{writePoint, writePoints}
 use Rattle.conversion.proofs.FoldLaws.{run-bind, run-pure, run-map, run-same}
 use Rattle.conversion.proofs.MadeLaws.{steps}
 use Rattle.stream.specs.Records.{longBytes, pointsBytes}
-use Rattle.writing.specs.Steps.{Succeeds}
+use Rattle.writing.specs.code.Steps.{Succeeds}
 use Rattle.writing.proofs.StepLaws.{run-through, yields, succeeds, written, putting}
-use Rattle.forms.specs.Place.{valuesFrom, pointAt, pointsFrom}
+use Rattle.forms.specs.code.Place.{valuesFrom, pointAt, pointsFrom}
 use Rattle.coordinate.specs.declared.Pointed.{Pointed}
 use Rattle.coordinate.specs.declared.Pointed.the-variants as P
-use Rattle.coordinate.specs.Coordinate.{pointed, Converts}
+use Rattle.coordinate.specs.code.Coordinate.{pointed, Converts}
 use Rattle.coordinate.proofs.ValueLaws.{same-point}
 
 -- a point by its bits, as code has it between two calls

@@ -1,3 +1,2 @@
 -- What the code answers for points in turn, and which points pass unchanged.
-pub mod Walk
-pub mod Integers
+pub mod code

@@ -14,7 +14,7 @@ use Rattle.big_endian.specs.Big.{numberAt}
 use Rattle.big_endian.specs.Buffer.{splice}
 use Rattle.big_endian.proofs.BufferLaws.{at-turn}
 use Rattle.conversion.specs.declared.Entry.{Entry}
-use Rattle.conversion.specs.Fold.{run}
+use Rattle.conversion.specs.code.Fold.{run}
 use Rattle.conversion.proofs.FoldLaws.{run-need, run-unmet, run-pure, run-map}
 use Rattle.conversion.proofs.MadeLaws.{steps, checked}
 use Rattle.sheet.specs.Element as S
@@ -24,15 +24,15 @@ use Rattle.stream.specs.Record.{ENDEL, PROPATTR, PROPVALUE, recordBytes, stream
 use Rattle.stream.specs.Records.{emptyRecord, wordRecord, stringRecord, tailRecords}
 use Rattle.cell.specs.Limits.{maxValueLength}
 use Rattle.cell.specs.Write.{writeProperties}
-use Rattle.records.specs.Bytes.{Placed, Recorded}
+use Rattle.records.specs.code.Bytes.{Placed, Recorded}
 use Rattle.records.proofs.RecordLaws.{length-record, length-padded, then-placed}
-use Rattle.forms.specs.Place.{valuesFrom, placeFrom, stringAt, propertyAt, propertyEnd, propertiesFrom}
+use Rattle.forms.specs.code.Place.{valuesFrom, placeFrom, stringAt, propertyAt, propertyEnd, propertiesFrom}
 use Rattle.forms.proofs.StringLaws.{length-string}
 use Rattle.writing.specs.declared.Measured.{Measured}
 use Rattle.writing.specs.declared.Measured.the-variants as M
-use Rattle.writing.specs.Steps.{sizing, Succeeds}
+use Rattle.writing.specs.code.Steps.{sizing, Succeeds}
 use Rattle.writing.proofs.StepLaws.{yields, succeeds, written, putting}
-use Rattle.properties.specs.Tail.{said, propertyBytes, tailBytes, tailLength}
+use Rattle.properties.specs.code.Tail.{said, propertyBytes, tailBytes, tailLength}
 
 -- ---- lengths
 

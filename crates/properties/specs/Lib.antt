@@ -1,2 +1,2 @@
 -- The bytes and the length of an element's properties and its ENDEL.
-pub mod Tail
+pub mod code

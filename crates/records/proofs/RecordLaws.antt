@@ -14,7 +14,7 @@ use Rattle.big_endian.proofs.BufferLaws.{then-at, length-at, nothing-at, same-b
 use Rattle.stream.specs.Record.{Rec, noData, asciiString, recordBytes, streamBytes}
 use Rattle.stream.specs.Records.{emptyRecord, stringRecord, opt}
 use Rattle.stream.specs.Strings.{padded}
-use Rattle.records.specs.Bytes.{headBytes, Placed, Recorded, optBytes, optionOf}
+use Rattle.records.specs.code.Bytes.{headBytes, Placed, Recorded, optBytes, optionOf}
 
 -- ---- what a writer promises
 

@@ -1,2 +1,2 @@
 -- The bytes of one record, as its writers put them.
-pub mod Bytes
+pub mod code

@@ -7,7 +7,7 @@ ghost use lib.ListN.{length};
 ghost use Rattle.big_endian.specs.Big.{bytesOf};
 ghost use Rattle.stream.specs.Records.{emptyRecord, wordRecord, longRecord, realRecord, stringRecord, colrowRecord};
 ghost use Rattle.stream.specs.Strings.{padded};
-ghost use Rattle.records.specs.Bytes.{headBytes, sized, stamped, Placed, Recorded, optBytes, optionOf};
+ghost use Rattle.records.specs.code.Bytes.{headBytes, sized, stamped, Placed, Recorded, optBytes, optionOf};
 
 // The data types of the manual.
 pub const NO_DATA: u8 = 0;

@@ -22,13 +22,13 @@ use Rattle.cell.specs.Limits.{within, maxNameLength, maxColRow}
 use Rattle.cell.specs.Names.{isName}
 use Rattle.cell.specs.Write.{isSome, inUnit}
 use Rattle.forms.specs.declared.ReferencePlaces.{ReferencePlaces}
-use Rattle.forms.specs.Place.{pointAt, spacingAt, stringAt, stringEnd}
-use Rattle.forms.specs.Forms.{referenceAt}
+use Rattle.forms.specs.code.Place.{pointAt, spacingAt, stringAt, stringEnd}
+use Rattle.forms.specs.code.Forms.{referenceAt}
 use Rattle.forms.proofs.StringLaws.{length-string}
-use Rattle.writing.specs.Steps.{Succeeds}
+use Rattle.writing.specs.code.Steps.{Succeeds}
 use Rattle.writing.proofs.StepLaws.{yields, past-check}
 use Rattle.reference.specs.declared.Check.the-variants as C
-use Rattle.reference.specs.Reference.{guarded, lacking, Bounded, Checks}
+use Rattle.reference.specs.code.Reference.{guarded, lacking, Bounded, Checks}
 
 -- ---- a spacing that is lacking
 

@@ -17,22 +17,22 @@ use Rattle.conversion.specs.declared.GdsRoundingPolicy.{GdsRoundingPolicy}
 use Rattle.conversion.specs.Made.{pure, _>>=_}
 use Rattle.conversion.proofs.MadeLaws.{Yields, made-yields, steps, checked}
 use Rattle.cell.specs.Write.{writeSref, writeAref, writeReference}
-use Rattle.forms.specs.Forms.{referenceAt}
+use Rattle.forms.specs.code.Forms.{referenceAt}
 use Rattle.stream.specs.Strings.{padded}
 use Rattle.stream.specs.Structure as D
 use Rattle.stream.specs.Record.{Rec, SREF, AREF, SNAME, XY, fourByte, streamBytes}
 use Rattle.stream.specs.Records.{emptyRecord, stringRecord, colrowRecord, longBytes, xyRecord, endpointOf, stransRecords, srefRecords, arefRecords}
 use Rattle.forms.specs.declared.ReferencePlaces.{ReferencePlaces}
-use Rattle.forms.specs.Place.{stringAt, stringEnd}
+use Rattle.forms.specs.code.Place.{stringAt, stringEnd}
 use Rattle.forms.proofs.StringLaws.{length-string}
-use Rattle.records.specs.Bytes.{headBytes, Placed, Recorded}
+use Rattle.records.specs.code.Bytes.{headBytes, Placed, Recorded}
 use Rattle.records.proofs.RecordLaws.{length-padded, length-first, record-at, then-rest, alone}
 use Rattle.transform.specs.declared.Strans.{Strans}
-use Rattle.transform.specs.Strans.{saidOf, stransBytes, stransLength}
+use Rattle.transform.specs.code.Strans.{saidOf, stransBytes, stransLength}
 use Rattle.transform.proofs.StransLaws.{then-strans, length-strans, transform-length}
 use Rattle.array.specs.declared.Corners.{Corners}
-use Rattle.array.specs.Corners.{cornersFor, stepsOf}
-use Rattle.reference.specs.Reference.{referenceBytes, sizeOf, singleRest, arrayRest, isSingle, referenceLength, srefOf, arefOf}
+use Rattle.array.specs.code.Corners.{cornersFor, stepsOf}
+use Rattle.reference.specs.code.Reference.{referenceBytes, sizeOf, singleRest, arrayRest, isSingle, referenceLength, srefOf, arefOf}
 
 -- ---- three points
 

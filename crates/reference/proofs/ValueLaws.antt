@@ -15,7 +15,7 @@ use Rattle.conversion.specs.declared.Entry.{Entry}
 use Rattle.conversion.specs.declared.GdsRoundingPolicy.{GdsRoundingPolicy}
 use Rattle.conversion.specs.Array.{ArrayPoints, convertArray}
 use Rattle.conversion.specs.Field.{originField}
-use Rattle.conversion.specs.Fold.{run}
+use Rattle.conversion.specs.code.Fold.{run}
 use Rattle.conversion.specs.Made.{Made, refused, pure, need, _>>=_, _>>_}
 use Rattle.conversion.specs.Points.{writePoint}
 use Rattle.conversion.proofs.FoldLaws.{run-then, run-need, run-unmet, run-map, run-same}
@@ -25,26 +25,26 @@ use Rattle.stream.specs.Strings.{padded}
 use Rattle.stream.specs.Structure as D
 use Rattle.cell.specs.Write.{inUnit, writeTransform, writeSref, writeAref, writeReference}
 use Rattle.forms.specs.declared.ReferencePlaces.{ReferencePlaces}
-use Rattle.forms.specs.Place.{pointAt, stringAt, stringEnd}
-use Rattle.forms.specs.Forms.{referenceAt}
+use Rattle.forms.specs.code.Place.{pointAt, stringAt, stringEnd}
+use Rattle.forms.specs.code.Forms.{referenceAt}
 use Rattle.transform.specs.declared.Strans.{Strans}
-use Rattle.transform.specs.Strans.{saidOf}
+use Rattle.transform.specs.code.Strans.{saidOf}
 use Rattle.transform.proofs.StransLaws.{transform-length, strans-length-is}
-use Rattle.writing.specs.Ready.{Ready, stopped, ready}
-use Rattle.writing.specs.Steps.{Succeeds}
+use Rattle.writing.specs.code.Ready.{Ready, stopped, ready}
+use Rattle.writing.specs.code.Steps.{Succeeds}
 use Rattle.writing.proofs.StepLaws.{run-through}
 use Rattle.writing.proofs.ReadyLaws.{never-stopped}
 use Rattle.coordinate.specs.declared.Pointed.{Pointed}
 use Rattle.coordinate.specs.declared.Pointed.the-variants as P
-use Rattle.coordinate.specs.Coordinate.{pointed, Converts}
+use Rattle.coordinate.specs.code.Coordinate.{pointed, Converts}
 use Rattle.array.specs.declared.Array.{Array}
 use Rattle.array.specs.declared.Array.the-variants as A
 use Rattle.array.specs.declared.Corners.{Corners}
-use Rattle.array.specs.Corners.{cornered}
+use Rattle.array.specs.code.Corners.{cornered}
 use Rattle.array.proofs.CornerLaws.{corners-are}
 use Rattle.reference.specs.declared.ReferenceValues.{ReferenceValues}
 use Rattle.reference.specs.declared.ReferenceValues.the-variants as N
-use Rattle.reference.specs.Reference.{sizeOf, singleRest, arrayRest, isSingle, referenceLength, guarded, Bounded, Encodes, afterTransform, afterChecks, turnedArray, srefOf, arefOf, readyOf, Fits, Values}
+use Rattle.reference.specs.code.Reference.{sizeOf, singleRest, arrayRest, isSingle, referenceLength, guarded, Bounded, Encodes, afterTransform, afterChecks, turnedArray, srefOf, arefOf, readyOf, Fits, Values}
 use Rattle.reference.proofs.CheckLaws.{guarded-bounded, guarded-past}
 
 -- ---- 15, and then the array. t and u are the answers of the two tests.

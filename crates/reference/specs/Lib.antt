@@ -1,2 +1,2 @@
 -- What the code of a reference answers, and the bytes of its records.
-pub mod Reference
+pub mod code

@@ -15,7 +15,7 @@ use Rattle.units.specs.Point.{Point}
 use Rattle.conversion.specs.declared.Entry.{Entry}
 use Rattle.conversion.specs.declared.GdsRoundingPolicy.{GdsRoundingPolicy}
 use Rattle.conversion.specs.Made.{Made, refused, pure, need, _>>=_, _>>_}
-use Rattle.conversion.specs.Fold.{run}
+use Rattle.conversion.specs.code.Fold.{run}
 use Rattle.conversion.specs.Points.{writePoints}
 use Rattle.conversion.proofs.MadeLaws.{checked, need-on, need-off, pure-then}
 use Rattle.conversion.proofs.FoldLaws.{run-map}
@@ -23,13 +23,13 @@ use Rattle.sheet.specs.Element as S
 use Rattle.stream.specs.Structure as D
 use Rattle.cell.specs.Limits.{within, maxLayer, maxDataType}
 use Rattle.cell.specs.Write.{layerAndType, writeShape}
-use Rattle.writing.specs.Steps.{Succeeds}
+use Rattle.writing.specs.code.Steps.{Succeeds}
 use Rattle.writing.proofs.StepLaws.{yields, past-check, past-checks}
 use Rattle.forms.specs.declared.ShapePlaces.{ShapePlaces}
-use Rattle.forms.specs.Place.{pointsFrom}
-use Rattle.forms.specs.Forms.{shapeAt}
+use Rattle.forms.specs.code.Place.{pointsFrom}
+use Rattle.forms.specs.code.Forms.{shapeAt}
 use Rattle.points.proofs.WalkLaws.{length-from}
-use Rattle.shape.specs.Shape.{shapeChecks, afterChecks}
+use Rattle.shape.specs.code.Shape.{shapeChecks, afterChecks}
 
 -- ---- each way out
 

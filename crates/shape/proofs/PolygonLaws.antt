@@ -24,12 +24,12 @@ use Rattle.sheet.specs.Element as S
 use Rattle.stream.specs.Structure as D
 use Rattle.cell.specs.Limits.{minPolygonPoints, minNodePoints, maxPoints, maxNodePoints}
 use Rattle.cell.specs.Write.{samePoint, lastOf, closed, writeShape, writePolygon, writeNode}
-use Rattle.writing.specs.Steps.{Succeeds}
+use Rattle.writing.specs.code.Steps.{Succeeds}
 use Rattle.writing.proofs.StepLaws.{yields, succeeds}
 use Rattle.points.specs.declared.Walked.the-variants as W
-use Rattle.points.specs.Walk.{through, walked}
+use Rattle.points.specs.code.Walk.{through, walked}
 use Rattle.points.proofs.WalkLaws.{pointOf, point-back}
-use Rattle.shape.specs.Shape.{afterChecks}
+use Rattle.shape.specs.code.Shape.{afterChecks}
 use Rattle.shape.proofs.CheckLaws.{shape-past, shape-counted}
 
 -- ---- whole numbers, which the code compares by their bits

@@ -19,15 +19,15 @@ use Rattle.stream.specs.Structure as D
 use Rattle.stream.specs.Record.{LAYER, XY, fourByte, recordBytes, streamBytes}
 use Rattle.stream.specs.Records.{emptyRecord, wordRecord, pointsBytes, shapeRecords}
 use Rattle.cell.specs.Write.{writeShape}
-use Rattle.records.specs.Bytes.{headBytes, Placed}
+use Rattle.records.specs.code.Bytes.{headBytes, Placed}
 use Rattle.forms.specs.declared.ShapePlaces.{ShapePlaces}
-use Rattle.forms.specs.Place.{pointsFrom}
-use Rattle.forms.specs.Forms.{shapeAt}
+use Rattle.forms.specs.code.Place.{pointsFrom}
+use Rattle.forms.specs.code.Forms.{shapeAt}
 use Rattle.writing.specs.declared.Written.{Written}
-use Rattle.writing.specs.Steps.{Succeeds, Writes}
+use Rattle.writing.specs.code.Steps.{Succeeds, Writes}
 use Rattle.writing.proofs.StepLaws.{yields, succeeds, write-after}
 use Rattle.points.proofs.WalkLaws.{length-from, length-made, length-bytes}
-use Rattle.shape.specs.Shape.{shapeBytes, shapeLength, shapeHead, afterChecks}
+use Rattle.shape.specs.code.Shape.{shapeBytes, shapeLength, shapeHead, afterChecks}
 
 -- ---- how many bytes
 

@@ -1,2 +1,2 @@
 -- The bytes and the checks of a polygon and of a node.
-pub mod Shape
+pub mod code

@@ -2,13 +2,13 @@
 ghost use mathlib.Core.Path.{_≡_};
 ghost use Prim.Native.Nat.{_+_, _*_, _≤_};
 ghost use lib.ListN.{length};
-ghost use Rattle.conversion.specs.Fold.{run};
+ghost use Rattle.conversion.specs.code.Fold.{run};
 ghost use Rattle.cell.specs.Write.{samePoint, writeShape, writePolygon, writeNode};
-ghost use Rattle.records.specs.Bytes.{Placed};
-ghost use Rattle.writing.specs.Steps.{Measures, Succeeds, Writes};
-ghost use Rattle.forms.specs.Forms.{shapeAt, ShapeIn};
+ghost use Rattle.records.specs.code.Bytes.{Placed};
+ghost use Rattle.writing.specs.code.Steps.{Measures, Succeeds, Writes};
+ghost use Rattle.forms.specs.code.Forms.{shapeAt, ShapeIn};
 ghost use Rattle.points.specs.declared.Walked.the-variants as W;
-ghost use Rattle.shape.specs.Shape.{shapeBytes, polygonBytes, nodeBytes, shapeHead, shapeEnds, shapeChecks, checkOf, afterChecks};
+ghost use Rattle.shape.specs.code.Shape.{shapeBytes, polygonBytes, nodeBytes, shapeHead, shapeEnds, shapeChecks, checkOf, afterChecks};
 use conversion::Entry;
 use conversion::GdsRoundingPolicy;
 use forms::ShapePlaces;

@@ -10,7 +10,7 @@ use Rattle.conversion.specs.declared.Conversion.{Conversion}
 use Rattle.conversion.specs.Field.{pointField, noAxis}
 use Rattle.conversion.specs.Convert.{Spot, convertPhysical}
 use Rattle.conversion.specs.Points.{spot}
-use Rattle.conversion.specs.Answer.{outcome}
+use Rattle.conversion.specs.code.Answer.{outcome}
 use Rattle.survey.specs.declared.Placed.{Placed}
 use Rattle.survey.specs.declared.Placed.the-variants as P
 use Rattle.survey.specs.declared.Counts.{Counts}

@@ -13,7 +13,7 @@ use Rattle.conversion.specs.declared.CallerPolicy.{CallerPolicy}
 use Rattle.conversion.specs.declared.CallerPolicy.the-variants as C
 use Rattle.conversion.specs.Made.{Made, refused, made}
 use Rattle.conversion.specs.Policy.{callerPolicy}
-use Rattle.conversion.specs.Answer.{callerOf}
+use Rattle.conversion.specs.code.Answer.{callerOf}
 use Rattle.conversion.proofs.MadeLaws.{Yields, made-yields, steps, checked, need-on, need-off}
 use Rattle.conversion.proofs.PolicyLaws.{caller-refused, caller-policy}
 use Rattle.survey.specs.declared.Counts.{Counts}

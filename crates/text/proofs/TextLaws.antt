@@ -16,7 +16,7 @@ use Rattle.units.specs.Point.{Point}
 use Rattle.conversion.specs.declared.Entry.{Entry}
 use Rattle.conversion.specs.declared.GdsRoundingPolicy.{GdsRoundingPolicy}
 use Rattle.conversion.specs.Field.{originField}
-use Rattle.conversion.specs.Fold.{notedAll, run}
+use Rattle.conversion.specs.code.Fold.{notedAll, run}
 use Rattle.conversion.specs.Made.{Made, refused, pure, _>>=_, _>>_}
 use Rattle.conversion.specs.Points.{writePoint}
 use Rattle.conversion.proofs.FoldLaws.{run-bind, run-need, run-unmet, run-map}
@@ -28,25 +28,25 @@ use Rattle.stream.specs.Record.{TEXT, LAYER, TEXTTYPE, PRESENTATION, STRING, st
 use Rattle.stream.specs.Records.{emptyRecord, wordRecord, bitsRecord, xyRecord, stringRecord, opt, stransRecords, textRecords}
 use Rattle.cell.specs.Limits.{maxLayer, maxStringLength}
 use Rattle.cell.specs.Write.{writeTransform, writeText}
-use Rattle.records.specs.Bytes.{Placed, Recorded}
+use Rattle.records.specs.code.Bytes.{Placed, Recorded}
 use Rattle.records.proofs.RecordLaws.{length-padded, length-first, then-rest, alone}
 use Rattle.forms.specs.declared.TextPlaces.{TextPlaces}
-use Rattle.forms.specs.Place.{stringAt, stringEnd}
-use Rattle.forms.specs.Forms.{textAt}
+use Rattle.forms.specs.code.Place.{stringAt, stringEnd}
+use Rattle.forms.specs.code.Forms.{textAt}
 use Rattle.forms.proofs.StringLaws.{length-string}
 use Rattle.coordinate.specs.declared.Pointed.{Pointed}
 use Rattle.coordinate.specs.declared.Pointed.the-variants as P
-use Rattle.coordinate.specs.Coordinate.{pointed, Converts}
+use Rattle.coordinate.specs.code.Coordinate.{pointed, Converts}
 use Rattle.transform.specs.declared.Strans.{Strans}
-use Rattle.transform.specs.Strans.{saidOf, stransBytes, stransLength}
+use Rattle.transform.specs.code.Strans.{saidOf, stransBytes, stransLength}
 use Rattle.transform.proofs.StransLaws.{then-strans, length-strans, length-strans-of, transform-length}
-use Rattle.writing.specs.Ready.{Ready, stopped, ready}
-use Rattle.writing.specs.Steps.{Succeeds}
+use Rattle.writing.specs.code.Ready.{Ready, stopped, ready}
+use Rattle.writing.specs.code.Steps.{Succeeds}
 use Rattle.writing.proofs.StepLaws.{run-through, past-check}
 use Rattle.writing.proofs.ReadyLaws.{ready-yields}
 use Rattle.text.specs.declared.TextValues.{TextValues}
 use Rattle.text.specs.declared.TextValues.the-variants as X
-use Rattle.text.specs.Text.{SaidText, textBytes, sizeOf, textLength, afterChecks, textOf, readyOf}
+use Rattle.text.specs.code.Text.{SaidText, textBytes, sizeOf, textLength, afterChecks, textOf, readyOf}
 
 -- what the records say of a text whose transform and origin are these
 abbrev said : S.Text → Option D.Strans → Point ℤ → SaidText

@@ -1,2 +1,2 @@
 -- What the code of a text answers, and the bytes of its records with their length.
-pub mod Text
+pub mod code

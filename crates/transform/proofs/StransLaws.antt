@@ -23,10 +23,10 @@ use Rattle.stream.specs.Records.{bitsRecord, realRecord, opt, stransBits, stran
 use Rattle.stream.proofs.AppendLaws.{strans-append}
 use Rattle.stream.proofs.BytesLaws.{stream-append}
 use Rattle.cell.specs.Write.{isSome, encodable, writeReal, writeMagnification, writeAngle, stransOf, writeTransform}
-use Rattle.records.specs.Bytes.{Placed, Recorded, optBytes, optionOf}
+use Rattle.records.specs.code.Bytes.{Placed, Recorded, optBytes, optionOf}
 use Rattle.records.proofs.RecordLaws.{placed, then-placed, then-rest, then-opt, length-record}
 use Rattle.transform.specs.declared.Strans.{Strans}
-use Rattle.transform.specs.Strans.{saidOf, stransBytes, realLength, lengthOf, stransLength, transformLength}
+use Rattle.transform.specs.code.Strans.{saidOf, stransBytes, realLength, lengthOf, stransLength, transformLength}
 
 -- ---- in front of the rest
 

@@ -20,7 +20,7 @@ use Rattle.conversion.specs.Made.{Made, refused, pure, need, _>>=_, _>>_}
 use Rattle.conversion.proofs.MadeLaws.{need-on, need-off, pure-then, refused-then}
 use Rattle.stream.specs.Structure as D
 use Rattle.cell.specs.Write.{encodable, writeReal, writeMagnification, writeAngle, stransOf, writeTransform}
-use Rattle.transform.specs.Strans.{withAngle}
+use Rattle.transform.specs.code.Strans.{withAngle}
 
 -- ---- a real, by the encoder's answer
 

@@ -1,2 +1,2 @@
 -- What the code of a transform answers, and the bytes of its records.
-pub mod Strans
+pub mod code

@@ -1,2 +1,2 @@
 -- What the answer of a caller's checks stands for.
-pub mod Call
+pub mod code

@@ -9,8 +9,8 @@ ghost use Rattle.cell.specs.Call.{checkedCall};
 ghost use Rattle.cell.specs.Limits as Limits;
 ghost use Rattle.cell.specs.Names as Names;
 ghost use Rattle.cell.specs.Stamps as Stamps;
-ghost use Rattle.forms.specs.Place.{wordsFrom};
-ghost use Rattle.validation.specs.Call.{callOf};
+ghost use Rattle.forms.specs.code.Place.{wordsFrom};
+ghost use Rattle.validation.specs.code.Call.{callOf};
 
 // The longest sheet.
 const MAX_SHEET_LENGTH: usize = 16777216;

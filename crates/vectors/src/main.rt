@@ -4,7 +4,7 @@ ghost use mathlib.Core.Path.{_≡_};
 ghost use Prim.Native.Nat.{_≤_};
 ghost use lib.ListN.{length};
 ghost use Rattle.big_endian.specs.Buffer.{WroteAt};
-ghost use Rattle.records.specs.Bytes.{Placed};
+ghost use Rattle.records.specs.code.Bytes.{Placed};
 ghost use Rattle.cell.specs.Cell.{writeCell};
 ghost use Rattle.vectors.specs.Case as Case;
 ghost use Rattle.vectors.specs.Case.{Fits, refusedBytes, frontBytes, answerBytes, answeredAt, agreesAt, next, tallyOf, verdicts};

@@ -14,7 +14,7 @@ use Rattle.refusal.specs.declared.Refusal.{Refusal}
 use Rattle.conversion.specs.declared.GdsRoundingPolicy.{GdsRoundingPolicy}
 use Rattle.conversion.specs.declared.Entry.{Entry}
 use Rattle.conversion.specs.Entry.{greatestFrom}
-use Rattle.conversion.specs.Fold.{standing}
+use Rattle.conversion.specs.code.Fold.{standing}
 use Rattle.sheet.specs.Element.{elementOf}
 use Rattle.sheet.specs.Blocks.{pairCount, blockOf, pairsFit, blocksFrom}
 use Rattle.sheet.specs.Cell.{elementBlocks}
@@ -23,11 +23,11 @@ use Rattle.cell.specs.Limits.{maxSheetLength}
 use Rattle.cell.specs.Cell.{writeBlocks}
 use Rattle.writing.specs.declared.Measured.{Measured}
 use Rattle.writing.specs.declared.Measured.the-variants as M
-use Rattle.elements.specs.Block.{measuredBlock, Short}
+use Rattle.elements.specs.code.Block.{measuredBlock, Short}
 use Rattle.elements.proofs.BlockLaws.{Met, met}
 use Rattle.walk.specs.declared.Totals.{Totals}
 use Rattle.walk.specs.declared.Totals.the-variants as T
-use Rattle.walk.specs.Walk.{totalsFrom}
+use Rattle.walk.specs.code.Walk.{totalsFrom}
 use Rattle.sheet.proofs.CountLaws.{blocks-turn, blocks-end}
 use Rattle.walk.proofs.WalkLaws.{totals-stop, totals-turn}
 

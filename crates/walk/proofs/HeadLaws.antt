@@ -22,11 +22,11 @@ use Rattle.records.proofs.RecordLaws.{length-record, length-padded}
 use Rattle.forms.specs.declared.HeadPlaces.{HeadPlaces}
 use Rattle.forms.specs.declared.HeadForm.{HeadForm}
 use Rattle.forms.specs.declared.HeadForm.the-variants as F
-use Rattle.forms.specs.Place.{valuesFrom, wordsFrom, stringAt}
-use Rattle.forms.specs.Forms.{headAt, HeadIn}
-use Rattle.forms.specs.Checks.{HeadRead}
+use Rattle.forms.specs.code.Place.{valuesFrom, wordsFrom, stringAt}
+use Rattle.forms.specs.code.Forms.{headAt, HeadIn}
+use Rattle.forms.specs.code.Checks.{HeadRead}
 use Rattle.walk.specs.declared.HeadMeasured.the-variants as H
-use Rattle.walk.specs.Walk.{headBytes, headMeasured}
+use Rattle.walk.specs.code.Walk.{headBytes, headMeasured}
 
 -- ---- lengths
 

@@ -12,11 +12,11 @@ use Rattle.big_endian.proofs.BufferLaws.{then-at, same-bytes}
 use Rattle.stream.specs.Record.{BGNSTR, STRNAME, recordBytes}
 use Rattle.stream.specs.Records.{wordsBytes, stringRecord}
 use Rattle.stream.specs.Strings.{padded}
-use Rattle.records.specs.Bytes.{stamped, Recorded}
+use Rattle.records.specs.code.Bytes.{stamped, Recorded}
 use Rattle.forms.specs.declared.HeadPlaces.{HeadPlaces}
-use Rattle.forms.specs.Place.{valuesFrom, wordsFrom, stringAt}
-use Rattle.forms.specs.Forms.{headAt}
-use Rattle.walk.specs.Walk.{headBytes}
+use Rattle.forms.specs.code.Place.{valuesFrom, wordsFrom, stringAt}
+use Rattle.forms.specs.code.Forms.{headAt}
+use Rattle.walk.specs.code.Walk.{headBytes}
 use Rattle.walk.proofs.HeadLaws.{length-words, head-length}
 
 -- a number of two bytes, as its bytes

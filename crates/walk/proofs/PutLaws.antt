@@ -15,7 +15,7 @@ use Rattle.conversion.specs.declared.Entry.{Entry}
 use Rattle.conversion.specs.Entry.{entryOf, entryBytes, reportWith}
 use Rattle.conversion.specs.declared.Deviation.{Deviation}
 use Rattle.conversion.specs.Made.{made}
-use Rattle.conversion.specs.Fold.{blankEntry, notedAll, standing}
+use Rattle.conversion.specs.code.Fold.{blankEntry, notedAll, standing}
 use Rattle.conversion.proofs.EntryLaws.{length-entry, report-append}
 use Rattle.conversion.proofs.FoldLaws.{entry-stands}
 use Rattle.sheet.specs.Element.{Element, kindOf}
@@ -25,8 +25,8 @@ use Rattle.stream.specs.Records.{elementBytes, elementsBytes}
 use Rattle.cell.specs.Write.{writeElement}
 use Rattle.cell.specs.Cell.{writeBlocks}
 use Rattle.writing.specs.declared.Written.{Written}
-use Rattle.elements.specs.Block.{Fits, WritesBlock}
-use Rattle.walk.specs.Walk.{ElementsFit, PutsElements}
+use Rattle.elements.specs.code.Block.{Fits, WritesBlock}
+use Rattle.walk.specs.code.Walk.{ElementsFit, PutsElements}
 use Rattle.sheet.proofs.CountLaws.{pairs-count, blocks-turn, blocks-end}
 use Rattle.walk.proofs.WalkLaws.{Split, split, Reached, reached-start, reached-turn, reached-end}
 

@@ -33,7 +33,7 @@ use Rattle.walk.specs.declared.HeadMeasured.{HeadMeasured}
 use Rattle.walk.specs.declared.HeadMeasured.the-variants as H
 use Rattle.walk.specs.declared.Totals.{Totals}
 use Rattle.walk.specs.declared.Totals.the-variants as T
-use Rattle.walk.specs.Walk.{headBytes, headMeasured, totalsFrom}
+use Rattle.walk.specs.code.Walk.{headBytes, headMeasured, totalsFrom}
 
 head-same : (h : Head) → B.headBytes (h .stamps) (padded (h .name)) ≡ headBytes h
 unfolding headBytes B.headBytes

@@ -20,16 +20,16 @@ use Rattle.stream.specs.Records.{emptyRecord, elementsBytes}
 use Rattle.stream.proofs.BytesLaws as S
 use Rattle.stream.proofs.BytesLaws.{structure-bytes, endBytes}
 use Rattle.cell.specs.Cell.{structureFor, structureBytes}
-use Rattle.records.specs.Bytes.{Recorded}
+use Rattle.records.specs.code.Bytes.{Recorded}
 use Rattle.records.proofs.RecordLaws.{length-record}
 use Rattle.forms.specs.declared.HeadPlaces.{HeadPlaces}
 use Rattle.forms.specs.declared.HeadForm.{HeadForm}
 use Rattle.forms.specs.declared.HeadForm.the-variants as F
-use Rattle.forms.specs.Place.{stringAt}
-use Rattle.forms.specs.Forms.{headAt, HeadIn}
-use Rattle.forms.specs.Checks.{HeadRead}
+use Rattle.forms.specs.code.Place.{stringAt}
+use Rattle.forms.specs.code.Forms.{headAt, HeadIn}
+use Rattle.forms.specs.code.Checks.{HeadRead}
 use Rattle.walk.specs.declared.Ends.{Ends}
-use Rattle.walk.specs.Walk.{headBytes, ElementsFit, PutsElements, StructureFits, PutsStructure}
+use Rattle.walk.specs.code.Walk.{headBytes, ElementsFit, PutsElements, StructureFits, PutsStructure}
 use Rattle.sheet.proofs.CountLaws.{pairs-count, block-in}
 use Rattle.walk.proofs.HeadLaws.{name-short}
 use Rattle.walk.proofs.WrittenLaws.{Sheet, sheet-split}

@@ -14,7 +14,7 @@ use Rattle.big_endian.specs.Buffer.{WroteAt}
 use Rattle.big_endian.proofs.RowLaws.{Row, row-start, row-turn, row-end}
 use Rattle.conversion.specs.Entry.{entryOf, reportWith, greatestFrom}
 use Rattle.conversion.specs.Made.{made}
-use Rattle.conversion.specs.Fold.{blankEntry, notedAll, standing}
+use Rattle.conversion.specs.code.Fold.{blankEntry, notedAll, standing}
 use Rattle.conversion.proofs.FoldLaws.{entry-stands}
 use Rattle.conversion.proofs.EntryLaws.{report-append, greatest-append}
 use Rattle.sheet.specs.Element.{Element, kindOf, elementOf}
@@ -26,9 +26,9 @@ use Rattle.cell.proofs.WalkLaws.{walk-ill, walk-refused, walk-made}
 use Rattle.writing.specs.declared.Measured.{Measured}
 use Rattle.writing.specs.declared.Measured.the-variants as M
 use Rattle.walk.specs.declared.Totals.the-variants as T
-use Rattle.elements.specs.Block.{measuredBlock}
+use Rattle.elements.specs.code.Block.{measuredBlock}
 use Rattle.elements.proofs.BlockLaws.{Met, ill, refusing, writing, met}
-use Rattle.walk.specs.Walk.{totalsFrom}
+use Rattle.walk.specs.code.Walk.{totalsFrom}
 
 -- ---- measuring
 

@@ -1,2 +1,2 @@
 -- What measuring and writing the head and the blocks in turn answer and promise.
-pub mod Walk
+pub mod code

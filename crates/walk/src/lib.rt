@@ -13,15 +13,15 @@ ghost use lib.ListN.{length};
 ghost use Rattle.big_endian.specs.Buffer.{WroteAt};
 ghost use Rattle.binary64.specs.Value.{zero64};
 ghost use Rattle.conversion.specs.Entry.{reportWith, greatestFrom};
-ghost use Rattle.conversion.specs.Fold.{standing};
+ghost use Rattle.conversion.specs.code.Fold.{standing};
 ghost use Rattle.sheet.specs.Element.{headOf};
 ghost use Rattle.sheet.specs.Blocks.{pairsFit};
 ghost use Rattle.sheet.specs.Cell.{elementBlocks};
-ghost use Rattle.forms.specs.Place.{stringAt};
-ghost use Rattle.forms.specs.Forms.{headAt, HeadIn};
+ghost use Rattle.forms.specs.code.Place.{stringAt};
+ghost use Rattle.forms.specs.code.Forms.{headAt, HeadIn};
 ghost use Rattle.cell.specs.Cell.{writeBlocks, writeSheet};
 ghost use Rattle.cell.specs.Answer.{answerOf};
-ghost use Rattle.walk.specs.Walk.{headBytes, headMeasured, HeadSmall, totalsFrom, TotalsSmall, ElementsFit, PutsElements, AnswerSmall, StructureFits, PutsStructure};
+ghost use Rattle.walk.specs.code.Walk.{headBytes, headMeasured, HeadSmall, totalsFrom, TotalsSmall, ElementsFit, PutsElements, AnswerSmall, StructureFits, PutsStructure};
 
 // BGNSTR, and its data, the block's twelve numbers.
 const BGNSTR_LENGTH: usize = 28;

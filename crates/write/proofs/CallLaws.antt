@@ -15,7 +15,7 @@ use Rattle.cell.specs.Answer.{answerOf, valuesOf}
 use Rattle.cell.proofs.CallLaws.{call-size}
 use Rattle.validation.specs.declared.Called.{Called}
 use Rattle.validation.specs.declared.Called.the-variants as C
-use Rattle.validation.specs.Call.{callOf}
+use Rattle.validation.specs.code.Call.{callOf}
 use Rattle.write.specs.Writer.{MeasuresCell}
 
 module _ (n : ℕ) (d : Float) (s : List ℕ) (v : Called) (f : callOf v ≡ checkedCall n d s) where

@@ -26,8 +26,9 @@ use Rattle.cell.proofs.ResultLaws.{check-on, check-off}
 use Rattle.cell.proofs.DrawsLaws.{demand3}
 use Rattle.cell.proofs.AnswerLaws.{accepted}
 use Rattle.walk.specs.declared.Ends.{Ends}
-use Rattle.walk.specs.Walk.{AnswerSmall, StructureFits, PutsStructure}
-use Rattle.write.specs.Writer.{fitted, defined, WritesSheet, WritesCell}
+use Rattle.walk.specs.code.Walk.{AnswerSmall, StructureFits, PutsStructure}
+use Rattle.write.specs.Writer.{defined, WritesCell}
+use Rattle.write.specs.code.Sheet.{fitted, WritesSheet}
 
 -- ---- a measured sheet
 

@@ -5,29 +5,18 @@ use mathlib.Core.List.{List}
 use Prim.Native.Nat.{ℕ}
 use lib.ListN.{length, take}
 use lib.Ieee.{Float}
-use Rattle.conversion.specs.declared.GdsRoundingPolicy.{GdsRoundingPolicy}
 use Rattle.stream.specs.Structure.{Structure}
-use Rattle.cell.specs.Cell.{Result, writeSheet, cellStructure, fitting, writeCell, outAfter, reportAfter}
-use Rattle.cell.specs.declared.Answer.{Answer}
+use Rattle.cell.specs.Cell.{Result, cellStructure, writeCell, outAfter, reportAfter}
 use Rattle.cell.specs.Answer.{answerOf, Values, valuesOf}
 use Rattle.cell.specs.Draws.{Draws}
 
--- what the definition says for buffers of these lengths: from 4 on, and of the whole
-abbrev pub fitted : GdsRoundingPolicy → Float → List ℕ → List ℕ → List ℕ → Result Structure
-fitted policy d sheet out report = fitting (length out) (length report) (writeSheet policy d sheet)
-
+-- what the definition says for buffers of these lengths
 abbrev pub defined : ℕ → Float → List ℕ → List ℕ → List ℕ → Result Structure
 defined policy d sheet out report = writeCell policy d sheet (length out) (length report)
 
 -- measuring: the definition's answer, before 21 and 22
 pub record MeasuresCell (policy : ℕ) (d : Float) (sheet : List ℕ) (v : Values) : Type 0 where
   pub answer : v ≡ valuesOf (answerOf (cellStructure policy d sheet))
-
--- what follows 1 to 3 of writing: the answer, and both buffers before and after
-pub record WritesSheet (policy : GdsRoundingPolicy) (d : Float) (sheet out report out′ report′ : List ℕ) (r : Answer) : Type 0 where
-  pub answer : r ≡ answerOf (fitted policy d sheet out report)
-  pub output : out′ ≡ outAfter (fitted policy d sheet out report) out
-  pub entries : report′ ≡ reportAfter (fitted policy d sheet out report) report
 
 -- writing: the answer's values v, and both buffers before and after
 pub record WritesCell (policy : ℕ) (d : Float) (sheet out report out′ report′ : List ℕ) (v : Values) : Type 0 where

@@ -6,7 +6,8 @@ use validation::Called;
 ghost use Prim.Native.Nat.{_≤_};
 ghost use lib.ListN.{length};
 ghost use Rattle.cell.specs.Answer.{valuesOf};
-ghost use Rattle.write.specs.Writer.{MeasuresCell, WritesSheet, WritesCell};
+ghost use Rattle.write.specs.Writer.{MeasuresCell, WritesCell};
+ghost use Rattle.write.specs.code.Sheet.{WritesSheet};
 
 // The bytes of a report entry.
 const ENTRY_LENGTH: usize = 33;

@@ -8,11 +8,11 @@ use Rattle.refusal.specs.declared.Refusal.{Refusal}
 use Rattle.big_endian.specs.Buffer.{WroteAt}
 use Rattle.conversion.specs.declared.Entry.{Entry}
 use Rattle.conversion.specs.Made.{Made, refused, made}
-use Rattle.conversion.specs.Fold.{notedAll, run}
+use Rattle.conversion.specs.code.Fold.{notedAll, run}
 use Rattle.conversion.proofs.MadeLaws.{Yields}
 use Rattle.writing.specs.declared.Measured.the-variants as M
-use Rattle.writing.specs.Ready.{Ready, stopped, ready}
-use Rattle.writing.specs.Steps.{sizing, Measures, Succeeds, Writes}
+use Rattle.writing.specs.code.Ready.{Ready, stopped, ready}
+use Rattle.writing.specs.code.Steps.{sizing, Measures, Succeeds, Writes}
 use Rattle.writing.proofs.StepLaws.{run-through, succeeds}
 
 -- the step gives the value that is ready, and the entry after it

@@ -9,7 +9,7 @@ use Rattle.refusal.specs.declared.Refusal.{Refusal}
 use Rattle.conversion.specs.declared.Deviation.{Deviation}
 use Rattle.conversion.specs.declared.Entry.{Entry}
 use Rattle.conversion.specs.Made.{Made, Done, refused, made, pure, need, _>>=_, _>>_}
-use Rattle.conversion.specs.Fold.{notedAll, run}
+use Rattle.conversion.specs.code.Fold.{notedAll, run}
 use Rattle.conversion.proofs.FoldLaws.{noted-append, run-bind, run-map, run-same}
 use Rattle.conversion.proofs.MadeLaws.{Yields, need-on, need-off, refused-then}
 use Rattle.big_endian.specs.Buffer.{splice, WroteAt}
@@ -17,7 +17,7 @@ use Rattle.big_endian.proofs.BufferLaws.{same-bytes, then-at}
 use Rattle.writing.specs.declared.Measured.{Measured}
 use Rattle.writing.specs.declared.Measured.the-variants as M
 use Rattle.writing.specs.declared.Written.{Written}
-use Rattle.writing.specs.Steps.{sizing, Measures, Succeeds, Writes}
+use Rattle.writing.specs.code.Steps.{sizing, Measures, Succeeds, Writes}
 
 -- ---- an answer handed on
 

@@ -1,3 +1,2 @@
 -- What measuring and writing promise of a step of the definitions.
-pub mod Steps
-pub mod Ready
+pub mod code

@@ -7,7 +7,7 @@ use lib.Ieee.Scale.{finite}
 use mir.Syntax.{w64}
 use mir.ValLaws.{toZ-ofZ}
 use borrow.Author.Needs.{needs}
-use Rattle.binary64.specs.Whole.{rounded}
+use Rattle.binary64.specs.code.Whole.{rounded}
 use Rattle.binary64.proofs.PartsLaws.{toward-fits, toward-parts}
 use Rattle.arithmetic.proofs.WholeLaws.{whole-none, whole-beyond, whole-at}
 use Rattle.arithmetic.proofs.to_whole.Statement.{statement}

@@ -2,7 +2,7 @@
 use mathlib.Core.Path.{_∙_}
 use Prim.Native.Nat.{_≤_}
 use native.Mathlib.Omega.{arith}
-use Rattle.forms.specs.Place.{pointAt, spacingAt}
+use Rattle.forms.specs.code.Place.{pointAt, spacingAt}
 use Rattle.array.proofs.CornerLaws.{converted-more, origin-stops, origin-refused, array-made}
 use borrow.Author.Needs.{needs}
 use Rattle.array.proofs.convert_array.Statement.{statement}
@@ -28,12 +28,14 @@ enum-known-origin c = search needs
 
 convert-spacings-requires : tie.Need-convert-spacings-requires
 convert-spacings-requires c κs =
-    let a = c .before .before .before .before .before .before .before .before .before .args in
-    let r = c .before .before .before .convert-physical-point in
+    let at-convert-physical-point = c .before .before .before in
+    let start = at-convert-physical-point .before .before .before .before .before .before in
+    let a = start .args in
+    let r = at-convert-physical-point .convert-physical-point in
     let k = c .before .origin .given in
     let l = converted-more (a .entry) _ _ (r .result) (r .ensures) (k .0 .0) (k .0 .1 .0) (k .1) in
-    let p : a .entry .count ≤ 16 = c .before .before .before .before .before .before .before .before .before .pre .1 in
-    (c .before .before .before .before .before .before .before .before .before .pre .0, omega arith)
+    let p : a .entry .count ≤ 16 = start .pre .1 in
+    (start .pre .0, omega arith)
 
 returns : tie.Need-returns
 returns c =
@@ -46,23 +48,31 @@ returns c =
 
 returns-2 : tie.Need-returns-2
 returns-2 c =
-    let a = c .before .before .before .before .before .before .before .before .before .args in
-    let v = c .before .before .before .before .before .before .before .physical-point in
+    let at-convert-physical-point = c .before .before .before in
+    let at-point = at-convert-physical-point .before .before in
+    let at-physical-point = at-point .before .before in
+    let start = at-physical-point .before .before in
+    let a = start .args in
+    let v = at-physical-point .physical-point in
     let s = a .s in
     let b = a .b .now in
-    let g = c .before .before .before .before .before .point .given in
-    let r = c .before .before .before .convert-physical-point in
+    let g = at-point .point .given in
+    let r = at-convert-physical-point .convert-physical-point in
     let k = c .before .refusal2 .given in
     origin-refused (a .policy) (a .d) (s .sine) (s .cosine) (s .columns) (s .rows) (pointAt b (s .origin)) (spacingAt b (s .column)) (spacingAt b (s .row)) (a .entry) (v .result) (v .ensures) (g .0 .0) (g .1) (r .result) (r .ensures) (k .0 .0) (k .1)
 
 returns-3 : tie.Need-returns-3
 returns-3 c =
-    let a = c .before .before .before .before .before .before .before .before .before .before .args in
-    let v = c .before .before .before .before .before .before .before .before .physical-point in
+    let at-convert-physical-point = c .before .before .before .before in
+    let at-point = at-convert-physical-point .before .before in
+    let at-physical-point = at-point .before .before in
+    let start = at-physical-point .before .before in
+    let a = start .args in
+    let v = at-physical-point .physical-point in
     let s = a .s in
     let b = a .b .now in
-    let g = c .before .before .before .before .before .before .point .given in
-    let r = c .before .before .before .before .convert-physical-point in
+    let g = at-point .point .given in
+    let r = at-convert-physical-point .convert-physical-point in
     let k = c .before .before .origin .given in
     c .convert-spacings .ensures ∙ array-made (a .policy) (a .d) (s .sine) (s .cosine) (s .columns) (s .rows) (pointAt b (s .origin)) (spacingAt b (s .column)) (spacingAt b (s .row)) (a .entry) (v .result) (v .ensures) (g .0 .0) (g .1) (r .result) (r .ensures) (k .0 .0) (k .0 .1 .0) (k .1)
 

@@ -9,9 +9,9 @@ use Rattle.conversion.specs.Field.{xAxis, yAxis}
 use Rattle.conversion.specs.Points.{spot}
 use Rattle.conversion.specs.Array.{endpointPhysical}
 use Rattle.conversion.specs.Convert.{arrayEndpoint}
-use Rattle.coordinate.specs.Coordinate.{ValueGrown, Values}
+use Rattle.coordinate.specs.code.Coordinate.{ValueGrown, Values}
 use Rattle.coordinate.proofs.ValueLaws.{same-values}
-use Rattle.array.specs.Corners.{physicalPart, databasePart}
+use Rattle.array.specs.code.Corners.{physicalPart, databasePart}
 use Rattle.array.proofs.CoordinateLaws.{same-endpoint, end-stops, end-stops-at-y, end-made}
 use borrow.Author.Needs.{needs}
 use Rattle.array.proofs.convert_endpoint.Statement.{statement}
@@ -77,28 +77,39 @@ y-ends k =
 
 returns : tie.Need-returns
 returns c =
-    let a = c .before .before .before .before .before .before .before .before .args in
-    let k = c .before .before .before in
+    let earlier = c .before .before .before in
+    let start = earlier .before .before .before .before .before in
+    let a = start .args in
+    let k = earlier in
     let g = c .before .refusal .given in
     λ policy. end-stops policy (a .d) (a .field) (databasePart (a .origin)) (databasePart (a .step)) (a .n) (physicalPart (a .origin)) (physicalPart (a .step)) (a .entry) (k .record-quantization .result) (x-ends k) (g .0 .0) (g .1)
 
 returns-2 : tie.Need-returns-2
 returns-2 c =
-    let a = c .before .before .before .before .before .before .before .before .before .before .before .before .before .before .before .before .args in
-    let k = c .before .before .before .before .before .before .before .before .before .before .before in
-    let l = c .before .before .before in
-    let g = c .before .before .before .before .before .before .before .before .before .x .given in
+    let earlier = c .before .before .before in
+    let at-x = earlier .before .before .before .before .before .before in
+    let earlier-2 = at-x .before .before in
+    let start = earlier-2 .before .before .before .before .before in
+    let a = start .args in
+    let k = earlier-2 in
+    let l = earlier in
+    let g = at-x .x .given in
     let h = c .before .refusal2 .given in
     λ policy. end-stops-at-y policy (a .d) (a .field) (databasePart (a .origin)) (databasePart (a .step)) (a .n) (physicalPart (a .origin)) (physicalPart (a .step)) (a .entry) (k .record-quantization .result) (x-ends k) (g .0 .0) (g .0 .1 .0) (g .1) (l .record-quantization2 .result) (y-ends l) (h .0 .0) (h .1)
 
 returns-3 : tie.Need-returns-3
 returns-3 c =
-    let a = c .before .before .before .before .before .before .before .before .before .before .before .before .before .before .before .before .args in
-    let k = c .before .before .before .before .before .before .before .before .before .before .before in
-    let l = c .before .before .before in
-    let g = c .before .before .before .before .before .before .before .before .before .x .given in
+    let earlier = c .before .before .before in
+    let at-known-told2 = earlier .before .before .before .before .before in
+    let at-x = at-known-told2 .before in
+    let earlier-2 = at-x .before .before in
+    let start = earlier-2 .before .before .before .before .before in
+    let a = start .args in
+    let k = earlier-2 in
+    let l = earlier in
+    let g = at-x .x .given in
     let h = c .before .y .given in
-    let gx = c .before .before .before .before .before .before .before .before .known-told2 .given in
+    let gx = at-known-told2 .known-told2 .given in
     let gy = c .known-told4 .given in
     let f : SFits w32 (g .0 .0) = search needs in
     let f2 : SFits w32 (h .0 .0) = search needs in

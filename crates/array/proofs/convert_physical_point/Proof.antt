@@ -5,11 +5,11 @@ use native.Mathlib.Omega.{arith}
 use mir.Syntax.{w32}
 use mir.Val.{SFits}
 use mir.ValLaws.{toZ-ofZ}
-use Rattle.conversion.specs.Answer.{pointOf}
+use Rattle.conversion.specs.code.Answer.{pointOf}
 use Rattle.conversion.specs.Convert.{convertPhysical}
 use Rattle.conversion.specs.Field.{xAxis, yAxis}
 use Rattle.conversion.specs.Points.{spot}
-use Rattle.coordinate.specs.Coordinate.{ValueGrown, Values}
+use Rattle.coordinate.specs.code.Coordinate.{ValueGrown, Values}
 use Rattle.coordinate.proofs.ValueLaws.{same-values}
 use Rattle.array.proofs.CoordinateLaws.{point-stops, point-stops-at-y, point-made}
 use borrow.Author.Needs.{needs}
@@ -61,19 +61,27 @@ returns c =
 
 returns-2 : tie.Need-returns-2
 returns-2 c =
-    let a = c .before .before .before .before .before .before .before .before .before .before .args in
-    let k = c .before .before .before .before .before .before .before .before in
-    let l = c .before .before .before in
-    let g = c .before .before .before .before .before .before .x .given in
+    let earlier = c .before .before .before in
+    let at-x = earlier .before .before .before in
+    let earlier-2 = at-x .before .before in
+    let start = earlier-2 .before .before in
+    let a = start .args in
+    let k = earlier-2 in
+    let l = earlier in
+    let g = at-x .x .given in
     let h = c .before .refusal2 .given in
     point-stops-at-y (a .policy) (a .d) (a .field) (pointOf (a .p)) (a .entry) (k .record-quantization .result) (x-ends k) (g .0 .0) (g .0 .1 .0) (g .1) (l .record-quantization2 .result) (y-ends l) (h .0 .0) (h .1)
 
 returns-3 : tie.Need-returns-3
 returns-3 c =
-    let a = c .before .before .before .before .before .before .before .before .before .before .args in
-    let k = c .before .before .before .before .before .before .before .before in
-    let l = c .before .before .before in
-    let g = c .before .before .before .before .before .before .x .given in
+    let earlier = c .before .before .before in
+    let at-x = earlier .before .before .before in
+    let earlier-2 = at-x .before .before in
+    let start = earlier-2 .before .before in
+    let a = start .args in
+    let k = earlier-2 in
+    let l = earlier in
+    let g = at-x .x .given in
     let h = c .before .y .given in
     let f : SFits w32 (g .0 .0) = search needs in
     let f2 : SFits w32 (h .0 .0) = search needs in

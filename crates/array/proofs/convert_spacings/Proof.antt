@@ -1,7 +1,7 @@
 -- `array::convert_spacings` meets its contract: both spacings, turned, and then the steps. Assumes nothing.
 use mathlib.Core.Path.{_∙_}
-use Rattle.forms.specs.Place.{spacingAt}
-use Rattle.array.specs.Corners.{physicalPart, databasePart}
+use Rattle.forms.specs.code.Place.{spacingAt}
+use Rattle.array.specs.code.Corners.{physicalPart, databasePart}
 use Rattle.array.proofs.CornerLaws.{column-spacing-stops, row-spacing-stops, spacings-made}
 use borrow.Author.Needs.{needs}
 use Rattle.array.proofs.convert_spacings.Statement.{statement}
@@ -46,26 +46,35 @@ returns c =
 
 returns-2 : tie.Need-returns-2
 returns-2 c =
-    let a = c .before .before .before .before .before .before .before .before .before .args in
-    let v = c .before .before .before .before .before .before .before .physical-spacing in
+    let at-physical-spacing2 = c .before .before .before in
+    let at-column = at-physical-spacing2 .before .before in
+    let at-physical-spacing = at-column .before .before in
+    let start = at-physical-spacing .before .before in
+    let a = start .args in
+    let v = at-physical-spacing .physical-spacing in
     let s = a .s in
     let b = a .b .now in
     let o = a .origin in
-    let g = c .before .before .before .before .before .column .given in
-    let w = c .before .before .before .physical-spacing2 in
+    let g = at-column .column .given in
+    let w = at-physical-spacing2 .physical-spacing2 in
     let k = c .before .refusal2 .given in
     row-spacing-stops (a .policy) (a .d) (s .columns) (s .rows) (s .sine) (s .cosine) (spacingAt b (s .column)) (spacingAt b (s .row)) (physicalPart o) (databasePart o) (a .entry) (v .result) (v .ensures) (g .0 .0) (g .1) (w .result) (w .ensures) (k .0 .0) (k .1)
 
 returns-3 : tie.Need-returns-3
 returns-3 c =
-    let a = c .before .before .before .before .before .before .before .before .before .before .before .before .args in
-    let v = c .before .before .before .before .before .before .before .before .before .before .physical-spacing in
+    let at-row = c .before .before .before .before in
+    let at-physical-spacing2 = at-row .before .before in
+    let at-column = at-physical-spacing2 .before .before in
+    let at-physical-spacing = at-column .before .before in
+    let start = at-physical-spacing .before .before in
+    let a = start .args in
+    let v = at-physical-spacing .physical-spacing in
     let s = a .s in
     let b = a .b .now in
     let o = a .origin in
-    let g = c .before .before .before .before .before .before .before .before .column .given in
-    let w = c .before .before .before .before .before .before .physical-spacing2 in
-    let k = c .before .before .before .before .row .given in
+    let g = at-column .column .given in
+    let w = at-physical-spacing2 .physical-spacing2 in
+    let k = at-row .row .given in
     c .convert-steps .ensures ∙ spacings-made (a .policy) (a .d) (s .columns) (s .rows) (s .sine) (s .cosine) (spacingAt b (s .column)) (spacingAt b (s .row)) (physicalPart o) (databasePart o) (a .entry) (v .result) (v .ensures) (g .0 .0) (g .1) (w .result) (w .ensures) (k .0 .0) (k .1) _ _ (c .before .before .turned .ensures) (c .before .turned2 .ensures)
 
 pub convert-spacings-spec : {M : Type 1} → statement M

@@ -2,8 +2,8 @@
 use mathlib.Core.Path.{_∙_}
 use Prim.Native.Nat.{_≤_}
 use native.Mathlib.Omega.{arith}
-use Rattle.conversion.specs.Answer.{pointOf}
-use Rattle.array.specs.Corners.{physicalPart, databasePart}
+use Rattle.conversion.specs.code.Answer.{pointOf}
+use Rattle.array.specs.code.Corners.{physicalPart, databasePart}
 use Rattle.array.proofs.CornerLaws.{converted-more, column-stops, row-stops, steps-made}
 use borrow.Author.Needs.{needs}
 use Rattle.array.proofs.convert_steps.Statement.{statement}
@@ -35,14 +35,18 @@ enum-known-b c = search needs
 
 convert-endpoints-requires : tie.Need-convert-endpoints-requires
 convert-endpoints-requires c κs =
-    let a = c .before .before .before .before .before .before .before .before .args in
-    let g = c .before .before .before .before .before .a .given in
-    let r = c .before .before .before .before .before .before .before .convert-physical-point in
+    let at-convert-physical-point2 = c .before .before .before in
+    let at-a = at-convert-physical-point2 .before .before in
+    let at-convert-physical-point = at-a .before .before in
+    let start = at-convert-physical-point .before in
+    let a = start .args in
+    let g = at-a .a .given in
+    let r = at-convert-physical-point .convert-physical-point in
     let k = converted-more (a .entry) _ _ (r .result) (r .ensures) (g .0 .0) (g .0 .1 .0) (g .1) in
     let h = c .before .b .given in
-    let s = c .before .before .before .convert-physical-point2 in
+    let s = at-convert-physical-point2 .convert-physical-point2 in
     let l = converted-more (g .0 .1 .0) _ _ (s .result) (s .ensures) (h .0 .0) (h .0 .1 .0) (h .1) in
-    let p : a .entry .count ≤ 18 = c .before .before .before .before .before .before .before .before .pre in
+    let p : a .entry .count ≤ 18 = start .pre in
     omega arith
 
 returns : tie.Need-returns
@@ -55,21 +59,29 @@ returns c =
 
 returns-2 : tie.Need-returns-2
 returns-2 c =
-    let a = c .before .before .before .before .before .before .before .before .args in
-    let r = c .before .before .before .before .before .before .before .convert-physical-point in
+    let at-convert-physical-point2 = c .before .before .before in
+    let at-a = at-convert-physical-point2 .before .before in
+    let at-convert-physical-point = at-a .before .before in
+    let start = at-convert-physical-point .before in
+    let a = start .args in
+    let r = at-convert-physical-point .convert-physical-point in
     let o = a .origin in
-    let g = c .before .before .before .before .before .a .given in
-    let s = c .before .before .before .convert-physical-point2 in
+    let g = at-a .a .given in
+    let s = at-convert-physical-point2 .convert-physical-point2 in
     let k = c .before .refusal2 .given in
     row-stops (a .policy) (a .d) (a .columns) (a .rows) (physicalPart o) (databasePart o) (pointOf (a .column)) (pointOf (a .row)) (a .entry) (r .result) (r .ensures) (g .0 .0) (g .0 .1 .0) (g .1) (s .result) (s .ensures) (k .0 .0) (k .1)
 
 returns-3 : tie.Need-returns-3
 returns-3 c =
-    let a = c .before .before .before .before .before .before .before .before .before .args in
-    let r = c .before .before .before .before .before .before .before .before .convert-physical-point in
+    let at-convert-physical-point2 = c .before .before .before .before in
+    let at-a = at-convert-physical-point2 .before .before in
+    let at-convert-physical-point = at-a .before .before in
+    let start = at-convert-physical-point .before in
+    let a = start .args in
+    let r = at-convert-physical-point .convert-physical-point in
     let o = a .origin in
-    let g = c .before .before .before .before .before .before .a .given in
-    let s = c .before .before .before .before .convert-physical-point2 in
+    let g = at-a .a .given in
+    let s = at-convert-physical-point2 .convert-physical-point2 in
     let k = c .before .before .b .given in
     c .convert-endpoints .ensures (a .policy) ∙ steps-made (a .policy) (a .d) (a .columns) (a .rows) (physicalPart o) (databasePart o) (pointOf (a .column)) (pointOf (a .row)) (a .entry) (r .result) (r .ensures) (g .0 .0) (g .0 .1 .0) (g .1) (s .result) (s .ensures) (k .0 .0) (k .0 .1 .0) (k .1)
 

@@ -1,9 +1,9 @@
 -- `array::physical_point` meets its contract: x, and then y. Assumes nothing.
 use mathlib.Core.Path.{_≡_, ap, _∙_}
 use Prim.Native.Nat.{_+_}
-use Rattle.conversion.specs.Answer.{physicalOf}
+use Rattle.conversion.specs.code.Answer.{physicalOf}
 use Rattle.conversion.specs.Convert.{physicalValue}
-use Rattle.forms.specs.Place.{unitAt, pointAt}
+use Rattle.forms.specs.code.Place.{unitAt, pointAt}
 use Rattle.array.proofs.CoordinateLaws.{physical-x-refused, physical-y-refused, physical-both}
 use borrow.Author.Needs.{needs}
 use Rattle.array.proofs.physical_point.Statement.{statement}
@@ -53,20 +53,28 @@ returns c =
 returns-2 : tie.Need-returns-2
 unfolding pointAt
 returns-2 c =
-    let a = c .before .before .before .before .before .before .before .before .before .before .before .args in
-    let v = c .before .before .before .before .before .before .before .before in
-    let w = c .before .before .before in
-    let g = c .before .before .before .before .before .before .x .given in
+    let earlier = c .before .before .before in
+    let at-x = earlier .before .before .before in
+    let earlier-2 = at-x .before .before in
+    let start = earlier-2 .before .before .before in
+    let a = start .args in
+    let v = earlier-2 in
+    let w = earlier in
+    let g = at-x .x .given in
     let h = c .before .refusal2 .given in
     physical-y-refused (pointAt (a .b .now) (a .at)) (v .physical-value .result) (x-is v) (g .0 .0) (g .1) (w .physical-value2 .result) (y-is w) (h .0 .0) (h .1)
 
 returns-3 : tie.Need-returns-3
 unfolding pointAt
 returns-3 c =
-    let a = c .before .before .before .before .before .before .before .before .before .before .before .args in
-    let v = c .before .before .before .before .before .before .before .before in
-    let w = c .before .before .before in
-    let g = c .before .before .before .before .before .before .x .given in
+    let earlier = c .before .before .before in
+    let at-x = earlier .before .before .before in
+    let earlier-2 = at-x .before .before in
+    let start = earlier-2 .before .before .before in
+    let a = start .args in
+    let v = earlier-2 in
+    let w = earlier in
+    let g = at-x .x .given in
     let h = c .before .y .given in
     physical-both (pointAt (a .b .now) (a .at)) (v .physical-value .result) (x-is v) (g .0 .0) (g .1) (w .physical-value2 .result) (y-is w) (h .0 .0) (h .1)
 

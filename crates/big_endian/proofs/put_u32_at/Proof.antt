@@ -20,7 +20,10 @@ same-length : tie.Need-same-length
 same-length c = search needs
 
 returns : tie.Need-returns
-returns c = halves-at 2 (c .before .before .before .before .before .before .before .before .before .args .v) (c .before .before .before .before .before .before .put-u16-at .ensures) (c .before .before .put-u16-at2 .ensures)
+returns c =
+    let at-put-u16-at = c .before .before .before .before .before .before in
+    let start = at-put-u16-at .before .before .before in
+    halves-at 2 (start .args .v) (at-put-u16-at .put-u16-at .ensures) (c .before .before .put-u16-at2 .ensures)
 
 pub put-u32-at-spec : {M : Type 1} → statement M
 put-u32-at-spec =

@@ -11,7 +11,7 @@ use Rattle.binary64.specs.Value.{negative, roundAway}
 use Rattle.binary64.specs.Step.{oneStep}
 use Rattle.binary64.proofs.PartsLaws.{cut-fits}
 use Rattle.conversion.specs.Convert.{onGrid, ranged}
-use Rattle.conversion.specs.Answer.{valueOf}
+use Rattle.conversion.specs.code.Answer.{valueOf}
 use Rattle.conversion.proofs.SnapLaws.{nearest-small-enough}
 use Rattle.conversion.proofs.GridLaws.{grid-nearest, grid-on, grid-off, grid-test, nearest-value, floor-value, ceil-value, grid-far}
 use borrow.Author.Needs.{needs}

@@ -5,7 +5,7 @@ use mir.Syntax.{w32}
 use mir.Val.{SFits, ofZ}
 use mir.ValLaws.{toZ-ofZ}
 use Rattle.conversion.specs.declared.Conversion.{Conversion}
-use Rattle.conversion.specs.Answer.{outcome}
+use Rattle.conversion.specs.code.Answer.{outcome}
 use Rattle.conversions.specs.declared.Answer.{Answer}
 use Rattle.conversions.specs.Case.{answerOf}
 use borrow.Author.Needs.{needs}

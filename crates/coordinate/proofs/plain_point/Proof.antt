@@ -12,7 +12,7 @@ use Rattle.conversion.specs.declared.Conversion.{Conversion}
 use Rattle.conversion.specs.declared.Conversion.the-variants as C
 use Rattle.conversion.proofs.Conversion.{the-type}
 use Rattle.coordinate.specs.declared.Plain.the-variants as L
-use Rattle.coordinate.specs.Coordinate.{plainOf}
+use Rattle.coordinate.specs.code.Coordinate.{plainOf}
 use borrow.Author.Needs.{needs}
 use Rattle.coordinate.proofs.plain_point.Statement.{statement}
 use Rattle.coordinate.proofs.plain_point.Tie as tie

@@ -19,10 +19,12 @@ same-length c = search needs
 
 returns : tie.Need-returns
 returns c =
-    let a = c .before .before .before .before .before .before .before .before .before .args in
-    let f = c .before .before .before .before .before .before .before .before .before .fits in
+    let at-put-i32-at = c .before .before .before .before .before .before in
+    let start = at-put-i32-at .before .before .before in
+    let a = start .args in
+    let f = start .fits in
     then-at
-    (same-bytes (ap longBytes (toZ-ofZ w32 (a .x) (f .x))) (c .before .before .before .before .before .before .put-i32-at .ensures))
+    (same-bytes (ap longBytes (toZ-ofZ w32 (a .x) (f .x))) (at-put-i32-at .put-i32-at .ensures))
     (same-bytes (ap longBytes (toZ-ofZ w32 (a .y) (f .y))) (c .before .before .put-i32-at2 .ensures))
 
 pub put-point-spec : {M : Type 1} → statement M

@@ -21,10 +21,12 @@ same-length c = search needs
 
 returns : tie.Need-returns
 returns c =
-    let s = c .before .before .before .before .before .before .before .before .before in
+    let at-put-head-at = c .before .before .before .before .before .before in
+    let earlier = at-put-head-at .before .before .before in
+    let s = earlier in
     let a = s .args in
     let f = s .fits in
-    record-at (xyRecord (record { x = a .x; y = a .y } ∷ [])) 12 refl (c .before .before .before .before .before .before .put-head-at .ensures .wrote)
+    record-at (xyRecord (record { x = a .x; y = a .y } ∷ [])) 12 refl (at-put-head-at .put-head-at .ensures .wrote)
     (same-point (toZ-ofZ w32 (a .x) (f .x)) (toZ-ofZ w32 (a .y) (f .y)) (c .before .before .put-point .ensures))
 
 pub put-xy-at-spec : {M : Type 1} → statement M

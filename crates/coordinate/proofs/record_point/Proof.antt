@@ -5,7 +5,7 @@ use native.Mathlib.Omega.{arith}
 use mir.Syntax.{w32}
 use mir.Val.{SFits}
 use mir.ValLaws.{toZ-ofZ}
-use Rattle.coordinate.specs.Coordinate.{ValueGrown}
+use Rattle.coordinate.specs.code.Coordinate.{ValueGrown}
 use Rattle.coordinate.proofs.ValueLaws.{point-stops, point-stops-at-y, point-made}
 use borrow.Author.Needs.{needs}
 use Rattle.coordinate.proofs.record_point.Statement.{statement}
@@ -42,21 +42,29 @@ returns c =
 
 returns-2 : tie.Need-returns-2
 returns-2 c =
-    let a = c .before .before .before .before .before .before .before .before .args in
-    let r = c .before .before .before .before .before .before .before .record-quantization in
-    let g = c .before .before .before .before .before .x .given in
+    let at-record-quantization2 = c .before .before .before in
+    let at-x = at-record-quantization2 .before .before in
+    let at-record-quantization = at-x .before .before in
+    let start = at-record-quantization .before in
+    let a = start .args in
+    let r = at-record-quantization .record-quantization in
+    let g = at-x .x .given in
     let f : SFits w32 (g .0 .0) = search needs in
-    let s = c .before .before .before .record-quantization2 in
+    let s = at-record-quantization2 .record-quantization2 in
     let k = c .before .refusal2 .given in
     point-stops-at-y (a .field) (a .place) (a .cx) (a .cy) (a .entry) (r .result) (r .ensures) (g .0 .0) _ (g .0 .1 .0) (g .1) (toZ-ofZ w32 (g .0 .0) f) (s .result) (s .ensures) (k .0 .0) (k .1)
 
 returns-3 : tie.Need-returns-3
 returns-3 c =
-    let a = c .before .before .before .before .before .before .before .before .args in
-    let r = c .before .before .before .before .before .before .before .record-quantization in
-    let g = c .before .before .before .before .before .x .given in
+    let at-record-quantization2 = c .before .before .before in
+    let at-x = at-record-quantization2 .before .before in
+    let at-record-quantization = at-x .before .before in
+    let start = at-record-quantization .before in
+    let a = start .args in
+    let r = at-record-quantization .record-quantization in
+    let g = at-x .x .given in
     let f : SFits w32 (g .0 .0) = search needs in
-    let s = c .before .before .before .record-quantization2 in
+    let s = at-record-quantization2 .record-quantization2 in
     let k = c .before .y .given in
     let h : SFits w32 (k .0 .0) = search needs in
     point-made (a .field) (a .place) (a .cx) (a .cy) (a .entry) (r .result) (r .ensures) (g .0 .0) _ (g .0 .1 .0) (g .1) (toZ-ofZ w32 (g .0 .0) f) (s .result) (s .ensures) (k .0 .0) _ (k .0 .1 .0) (k .1) (toZ-ofZ w32 (k .0 .0) h)

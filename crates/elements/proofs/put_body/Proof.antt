@@ -5,7 +5,7 @@ use native.Mathlib.Omega.{arith}
 use lib.ListN.{length}
 use borrow.Author.Needs.{needs}
 use Rattle.forms.specs.declared.BodyPlaces.{BodyPlaces}
-use Rattle.elements.specs.Block.{bodyLength}
+use Rattle.elements.specs.code.Block.{bodyLength}
 use Rattle.elements.proofs.BodyLaws.{polygon-as, path-as, text-as, node-as, reference-as}
 use Rattle.elements.proofs.PutLaws.{Room, room-of}
 use Rattle.elements.proofs.put_body.Statement.{statement}
@@ -82,8 +82,10 @@ same-length c = search needs
 
 returns : tie.Need-returns
 returns c =
-    let a = c .before .before .before .before .before .before .before .before .before .args in
-    let g = c .before .before .before .before .before .body .given in
+    let at-body = c .before .before .before .before .before in
+    let start = at-body .before .before .before .before in
+    let a = start .args in
+    let g = at-body .body .given in
     polygon-as (a .policy) (a .d) (a .b .now) (g .0 .0) (g .1) .writes (c .before .before .put-polygon .ensures)
 
 same-length-2 : tie.Need-same-length-2
@@ -91,8 +93,10 @@ same-length-2 c = search needs
 
 returns-2 : tie.Need-returns-2
 returns-2 c =
-    let a = c .before .before .before .before .before .before .before .before .before .args in
-    let g = c .before .before .before .before .before .body2 .given in
+    let at-body2 = c .before .before .before .before .before in
+    let start = at-body2 .before .before .before .before in
+    let a = start .args in
+    let g = at-body2 .body2 .given in
     path-as (a .policy) (a .d) (a .b .now) (g .0 .0) (g .1) .writes (c .before .before .put-path .ensures)
 
 same-length-3 : tie.Need-same-length-3
@@ -100,8 +104,10 @@ same-length-3 c = search needs
 
 returns-3 : tie.Need-returns-3
 returns-3 c =
-    let a = c .before .before .before .before .before .before .before .before .before .args in
-    let g = c .before .before .before .before .before .body3 .given in
+    let at-body3 = c .before .before .before .before .before in
+    let start = at-body3 .before .before .before .before in
+    let a = start .args in
+    let g = at-body3 .body3 .given in
     text-as (a .policy) (a .d) (a .b .now) (g .0 .0) (g .1) .writes (c .before .before .put-text .ensures)
 
 same-length-4 : tie.Need-same-length-4
@@ -109,8 +115,10 @@ same-length-4 c = search needs
 
 returns-4 : tie.Need-returns-4
 returns-4 c =
-    let a = c .before .before .before .before .before .before .before .before .before .args in
-    let g = c .before .before .before .before .before .body4 .given in
+    let at-body4 = c .before .before .before .before .before in
+    let start = at-body4 .before .before .before .before in
+    let a = start .args in
+    let g = at-body4 .body4 .given in
     node-as (a .policy) (a .d) (a .b .now) (g .0 .0) (g .1) .writes (c .before .before .put-node .ensures)
 
 same-length-5 : tie.Need-same-length-5
@@ -118,8 +126,10 @@ same-length-5 c = search needs
 
 returns-5 : tie.Need-returns-5
 returns-5 c =
-    let a = c .before .before .before .before .before .before .before .before .before .args in
-    let g = c .before .before .before .before .before .body5 .given in
+    let at-body5 = c .before .before .before .before .before in
+    let start = at-body5 .before .before .before .before in
+    let a = start .args in
+    let g = at-body5 .body5 .given in
     reference-as (a .policy) (a .d) (a .b .now) (g .0 .0) (g .1) .writes (c .before .before .put-reference .ensures)
 
 pub put-body-spec : {M : Type 1} → statement M

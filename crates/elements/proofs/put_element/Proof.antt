@@ -32,21 +32,28 @@ blank-requires-2 c κs = search needs
 
 put-body-requires : tie.Need-put-body-requires
 put-body-requires c κs =
-    let a = c .before .before .before .before .before .before .before .before .before .args in
-    let p = c .before .before .before .before .before .before .before .before .before .pre in
-    let w = c .before .before .before .before .before .before .element .ensures in
-    let g = c .before .before .before .before .body .given in
+    let at-body = c .before .before .before .before in
+    let at-element = at-body .before .before in
+    let start = at-element .before .before .before in
+    let a = start .args in
+    let p = start .pre in
+    let w = at-element .element .ensures in
+    let g = at-body .body .given in
     let l = both-fit (a .policy) (a .d) (a .b .now) (a .part .now) p w (g .0 .0) (g .0 .1 .0) (g .1) in
     let n = ap (λ (e : Entry). e .count) (c .blank2 .ensures) in
     (body-inside (a .policy) (a .d) (a .b .now) (a .part .now) p w (g .0 .0) (g .0 .1 .0) (g .1), (body-accepted (a .policy) (a .d) (a .b .now) (a .part .now) p w (g .0 .0) (g .0 .1 .0) (g .1), (omega arith, omega arith)))
 
 put-tail-requires : tie.Need-put-tail-requires
 put-tail-requires c κs =
-    let a = c .before .before .before .before .before .before .before .before .before .before .before .before .before .args in
-    let p = c .before .before .before .before .before .before .before .before .before .before .before .before .before .pre in
-    let w = c .before .before .before .before .before .before .before .before .before .before .element .ensures in
-    let g = c .before .before .before .before .before .before .before .before .body .given in
-    let l = tail-fits (a .policy) (a .d) (a .b .now) (a .part .now) p w (g .0 .0) (g .0 .1 .0) (g .1) _ (c .before .before .before .put-body .ensures) in
+    let at-put-body = c .before .before .before in
+    let at-body = at-put-body .before .before .before .before .before in
+    let at-element = at-body .before .before in
+    let start = at-element .before .before .before in
+    let a = start .args in
+    let p = start .pre in
+    let w = at-element .element .ensures in
+    let g = at-body .body .given in
+    let l = tail-fits (a .policy) (a .d) (a .b .now) (a .part .now) p w (g .0 .0) (g .0 .1 .0) (g .1) _ (at-put-body .put-body .ensures) in
     (tail-inside (a .policy) (a .d) (a .b .now) (a .part .now) p w (g .0 .0) (g .0 .1 .0) (g .1), (tail-accepted (a .policy) (a .d) (a .b .now) (a .part .now) p w (g .0 .0) (g .0 .1 .0) (g .1), omega arith))
 
 same-length : tie.Need-same-length
@@ -54,11 +61,17 @@ same-length c = search needs
 
 returns-2 : tie.Need-returns-2
 returns-2 c =
-    let a = c .before .before .before .before .before .before .before .before .before .before .before .before .before .before .before .before .args in
-    let g = c .before .before .before .before .before .before .before .before .before .before .before .body .given in
-    let k = c .before .before .before .before .before .before .before .before .before .kind-of in
-    let e = c .before .before .before .before .before .before .before .blank2 in
-    element-put (a .policy) (a .d) (a .b .now) (a .part .now) (c .before .before .before .before .before .before .before .before .before .before .before .before .before .before .before .before .pre) (c .before .before .before .before .before .before .before .before .before .before .before .before .before .element .ensures) (g .0 .0) (g .0 .1 .0) (g .1) (e .result) (c .before .before .before .before .before .before .put-body .ensures) (a .index) (k .result) (k .ensures) (e .ensures) (c .before .before .put-tail .ensures)
+    let at-put-body = c .before .before .before .before .before .before in
+    let at-blank2 = at-put-body .before in
+    let at-kind-of = at-blank2 .before .before in
+    let at-body = at-kind-of .before .before in
+    let at-element = at-body .before .before in
+    let start = at-element .before .before .before in
+    let a = start .args in
+    let g = at-body .body .given in
+    let k = at-kind-of .kind-of in
+    let e = at-blank2 .blank2 in
+    element-put (a .policy) (a .d) (a .b .now) (a .part .now) (start .pre) (at-element .element .ensures) (g .0 .0) (g .0 .1 .0) (g .1) (e .result) (at-put-body .put-body .ensures) (a .index) (k .result) (k .ensures) (e .ensures) (c .before .before .put-tail .ensures)
 
 pub put-element-spec : {M : Type 1} → statement M
 put-element-spec =

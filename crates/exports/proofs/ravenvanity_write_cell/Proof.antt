@@ -17,7 +17,9 @@ same-length-2 : tie.Need-same-length-2
 same-length-2 c = search needs
 
 returns : tie.Need-returns
-returns c = writes-in (c .before .before .before .before .before .before .before .before .before .write-cell .ensures) (c .answer-in .ensures)
+returns c =
+    let at-write-cell = c .before .before .before .before .before .before .before .before .before in
+    writes-in (at-write-cell .write-cell .ensures) (c .answer-in .ensures)
 
 pub ravenvanity-write-cell-spec : {M : Type 1} → statement M
 ravenvanity-write-cell-spec =

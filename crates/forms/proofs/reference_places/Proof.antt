@@ -1,7 +1,7 @@
 -- `forms::reference_places` meets its contract, number by number.
 -- Assumes nothing.
 use borrow.Author.Needs.{needs}
-use Rattle.forms.specs.Forms.{referencePlaces}
+use Rattle.forms.specs.code.Forms.{referencePlaces}
 use Rattle.forms.proofs.reference_places.Statement.{statement}
 use Rattle.forms.proofs.reference_places.Tie as tie
 

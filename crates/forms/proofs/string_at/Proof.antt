@@ -6,7 +6,7 @@ use native.Mathlib.Omega.{arith}
 use lib.ListN.{take, drop}
 use borrow.Author.Needs.{needs}
 use Rattle.big_endian.specs.Big.{numberAt}
-use Rattle.forms.specs.Place.{stringAt}
+use Rattle.forms.specs.code.Place.{stringAt}
 use Rattle.forms.proofs.string_at.Statement.{statement}
 use Rattle.forms.proofs.string_at.Tie as tie
 

@@ -9,11 +9,11 @@ use lib.Dec.{T}
 use lib.Pow.{pow-pos}
 use lib.Ieee.{Float, binary64, low, fits, sum, unlike}
 use Rattle.binary64.specs.Value.{unit, sizeOf}
-use Rattle.binary64.specs.Parts.{PartsOf}
+use Rattle.binary64.specs.code.Parts.{PartsOf}
 use Rattle.binary64.proofs.Powers.{times₂}
-use Rattle.mul_add.specs.Places.{word, scale, raise, addend}
-use Rattle.mul_add.specs.Wide.{wide}
-use Rattle.mul_add.specs.Normal.{Normal, Ready}
+use Rattle.mul_add.specs.code.Places.{word, scale, raise, addend}
+use Rattle.mul_add.specs.code.Wide.{wide}
+use Rattle.mul_add.specs.code.Normal.{Normal, Ready}
 use Rattle.mul_add.proofs.NormalLaws.{ready-product, ready-addend, product-same, addend-same}
 use Rattle.mul_add.proofs.FmaLaws.{fma-zero, fma-plain, fma-parts}
 use Rattle.mul_add.proofs.SumLaws.{sum-same}

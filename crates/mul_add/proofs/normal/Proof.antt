@@ -2,7 +2,7 @@
 use Prim.Native.Nat.{ℕ, _+_, _-_, _≤_, _<_}
 use native.Mathlib.Omega.{arith}
 use lib.Count.{leadingZeros}
-use Rattle.mul_add.specs.Places.{excess}
+use Rattle.mul_add.specs.code.Places.{excess}
 use Rattle.mul_add.proofs.LeadLaws.{Lead, zeros-fit}
 use Rattle.mul_add.proofs.NormalLaws.{normal, led, zeros-many}
 use borrow.Author.Needs.{needs}

@@ -5,10 +5,10 @@ use Prim.Native.Nat.{ℕ}
 use lib.Dec.{leb}
 use borrow.Author.Tests.{le-leb, lt-leb}
 use Rattle.cell.specs.Limits.{within}
-use Rattle.forms.specs.Forms.{pathAt}
+use Rattle.forms.specs.code.Forms.{pathAt}
 use Rattle.points.proofs.WalkLaws.{length-from}
 use Rattle.validation.proofs.StampLaws.{was-true, was-false}
-use Rattle.writing.specs.Ready.{stopped, ready}
+use Rattle.writing.specs.code.Ready.{stopped, ready}
 use Rattle.path.proofs.FrontLaws.{wrong-count, right-count}
 use borrow.Author.Needs.{needs}
 use Rattle.path.proofs.convert_front.Statement.{statement}
@@ -34,7 +34,12 @@ convert-lengths-requires c κs = search needs
 
 returns-4 : tie.Need-returns-4
 unfolding pathAt
-returns-4 c = let a = c .before .before .before .before .before .before .before .before .args in let p = pathAt (a .b .now) (a .path) in let h = ap (λ (n : ℕ). within 2 n 8191) (length-from (a .path .count) (a .b .now) (a .path .points)) ∙ sym (c .before .before .before .before .before .before .within .ensures) ∙ was-true _ (c .before .before .before .before .before .if1 .left) in let r = c .convert-lengths .ensures in record { is = r .is ∙ sym (right-count (a .policy) (a .d) p stopped (a .entry) ready true true h (le-leb _ _ (c .before .before .before .if2 .left)) (le-leb _ _ (c .before .if3 .left))); fits = r .fits }
+returns-4 c =
+    let at-if2 = c .before .before .before in
+    let at-if1 = at-if2 .before .before in
+    let at-within = at-if1 .before in
+    let start = at-within .before .before in
+    let a = start .args in let p = pathAt (a .b .now) (a .path) in let h = ap (λ (n : ℕ). within 2 n 8191) (length-from (a .path .count) (a .b .now) (a .path .points)) ∙ sym (at-within .within .ensures) ∙ was-true _ (at-if1 .if1 .left) in let r = c .convert-lengths .ensures in record { is = r .is ∙ sym (right-count (a .policy) (a .d) p stopped (a .entry) ready true true h (le-leb _ _ (at-if2 .if2 .left)) (le-leb _ _ (c .before .if3 .left))); fits = r .fits }
 
 pub convert-front-spec : {M : Type 1} → statement M
 convert-front-spec =

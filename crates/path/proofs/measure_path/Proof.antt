@@ -4,10 +4,10 @@ use mathlib.Core.Bool.{Bool}
 use Prim.Native.Nat.{ℕ, _+_, _*_}
 use native.Mathlib.Omega.{arith}
 use borrow.Author.Needs.{needs}
-use Rattle.forms.specs.Forms.{pathAt}
+use Rattle.forms.specs.code.Forms.{pathAt}
 use Rattle.points.proofs.WalkLaws.{length-from}
-use Rattle.path.specs.Front.{ExtentFits}
-use Rattle.path.specs.Length.{headLength}
+use Rattle.path.specs.code.Front.{ExtentFits}
+use Rattle.path.specs.code.Length.{headLength}
 use Rattle.path.proofs.FrontLaws.{front-counted}
 use Rattle.path.proofs.PathLaws.{measure-refused, points-refused, path-measured}
 use Rattle.path.proofs.measure_path.Statement.{statement}
@@ -40,22 +40,43 @@ enum-known-more c = search needs
 
 mul-t19 : tie.Need-mul-t19
 unfolding pathAt
-mul-t19 c = let a = c .before .before .before .before .before .before .before .before .before .before .before .before .args in let p = pathAt (a .b .now) (a .path) in let r = c .before .before .before .before .before .before .before .before .before .before .convert-front in let g = c .before .before .before .before .before .before .before .before .wide .given in let l = length-from (a .path .count) (a .b .now) (a .path .points) in let k = front-counted (a .policy) (a .d) p (a .entry) (r .result) (r .ensures) (g .0 .0) (g .0 .1 .0) (g .0 .1 .1 .0) (g .0 .1 .1 .1 .0) (g .0 .1 .1 .1 .1 .0) (g .0 .1 .1 .1 .1 .1 .0) (g .0 .1 .1 .1 .1 .1 .1 .0) (g .1) in let k0 = k .0 in let k1 = k .1 in omega arith
+mul-t19 c =
+    let at-wide = c .before .before .before .before .before .before .before .before in
+    let at-convert-front = at-wide .before .before in
+    let start = at-convert-front .before .before in
+    let a = start .args in let p = pathAt (a .b .now) (a .path) in let r = at-convert-front .convert-front in let g = at-wide .wide .given in let l = length-from (a .path .count) (a .b .now) (a .path .points) in let k = front-counted (a .policy) (a .d) p (a .entry) (r .result) (r .ensures) (g .0 .0) (g .0 .1 .0) (g .0 .1 .1 .0) (g .0 .1 .1 .1 .0) (g .0 .1 .1 .1 .1 .0) (g .0 .1 .1 .1 .1 .1 .0) (g .0 .1 .1 .1 .1 .1 .1 .0) (g .1) in let k0 = k .0 in let k1 = k .1 in omega arith
 
 add-t20 : tie.Need-add-t20
 unfolding pathAt
-add-t20 c = let a = c .before .before .before .before .before .before .before .before .before .before .before .before .args in let p = pathAt (a .b .now) (a .path) in let r = c .before .before .before .before .before .before .before .before .before .before .convert-front in let g = c .before .before .before .before .before .before .before .before .wide .given in let l = length-from (a .path .count) (a .b .now) (a .path .points) in let k = front-counted (a .policy) (a .d) p (a .entry) (r .result) (r .ensures) (g .0 .0) (g .0 .1 .0) (g .0 .1 .1 .0) (g .0 .1 .1 .1 .0) (g .0 .1 .1 .1 .1 .0) (g .0 .1 .1 .1 .1 .1 .0) (g .0 .1 .1 .1 .1 .1 .1 .0) (g .1) in let k0 = k .0 in let k1 = k .1 in let s = c .before .before .before .before .before .head-length .ensures .small in omega arith
+add-t20 c =
+    let at-head-length = c .before .before .before .before .before in
+    let at-wide = at-head-length .before .before .before in
+    let at-convert-front = at-wide .before .before in
+    let start = at-convert-front .before .before in
+    let a = start .args in let p = pathAt (a .b .now) (a .path) in let r = at-convert-front .convert-front in let g = at-wide .wide .given in let l = length-from (a .path .count) (a .b .now) (a .path .points) in let k = front-counted (a .policy) (a .d) p (a .entry) (r .result) (r .ensures) (g .0 .0) (g .0 .1 .0) (g .0 .1 .1 .0) (g .0 .1 .1 .1 .0) (g .0 .1 .1 .1 .1 .0) (g .0 .1 .1 .1 .1 .1 .0) (g .0 .1 .1 .1 .1 .1 .1 .0) (g .1) in let k0 = k .0 in let k1 = k .1 in let s = at-head-length .head-length .ensures .small in omega arith
 
 returns : tie.Need-returns
 returns c = let a = c .before .before .before .before .before .args in let p = pathAt (a .b .now) (a .path) in let r = c .before .before .before .convert-front in let g = c .before .refusal .given in measure-refused (a .policy) (a .d) p (a .entry) (r .result) (r .ensures) (g .0 .0) (g .1)
 
 returns-2 : tie.Need-returns-2
 unfolding pathAt
-returns-2 c = let a = c .before .before .before .before .before .before .before .before .before .before .before .args in let p = pathAt (a .b .now) (a .path) in let r = c .before .before .before .before .before .before .before .before .before .convert-front in let g = c .before .before .before .before .before .before .before .wide .given in let s = c .before .before .before .measure-points in let x = c .before .refusal2 .given in points-refused (a .policy) (a .d) p (a .entry) (r .result) (r .ensures) (g .0 .0) (g .0 .1 .0) (g .0 .1 .1 .0) (g .0 .1 .1 .1 .0) (g .0 .1 .1 .1 .1 .0) (g .0 .1 .1 .1 .1 .1 .0) (g .0 .1 .1 .1 .1 .1 .1 .0) (g .1) _ refl (s .result) (s .ensures) (x .0 .0) (x .1)
+returns-2 c =
+    let at-measure-points = c .before .before .before in
+    let at-wide = at-measure-points .before .before .before .before in
+    let at-convert-front = at-wide .before .before in
+    let start = at-convert-front .before .before in
+    let a = start .args in let p = pathAt (a .b .now) (a .path) in let r = at-convert-front .convert-front in let g = at-wide .wide .given in let s = at-measure-points .measure-points in let x = c .before .refusal2 .given in points-refused (a .policy) (a .d) p (a .entry) (r .result) (r .ensures) (g .0 .0) (g .0 .1 .0) (g .0 .1 .1 .0) (g .0 .1 .1 .1 .0) (g .0 .1 .1 .1 .1 .0) (g .0 .1 .1 .1 .1 .1 .0) (g .0 .1 .1 .1 .1 .1 .1 .0) (g .1) _ refl (s .result) (s .ensures) (x .0 .0) (x .1)
 
 returns-3 : tie.Need-returns-3
 unfolding pathAt
-returns-3 c = let a = c .before .before .before .before .before .before .before .before .before .before .before .before .args in let p = pathAt (a .b .now) (a .path) in let r = c .before .before .before .before .before .before .before .before .before .before .convert-front in let g = c .before .before .before .before .before .before .before .before .wide .given in let s = c .before .before .before .before .measure-points in let x = c .before .before .more .given in let t = c .before .before .before .before .before .before .has-path-type .ensures in let m = c .before .before .before .before .before .head-length .ensures .is in let l = length-from (a .path .count) (a .b .now) (a .path .points) in path-measured (a .policy) (a .d) p (a .entry) (r .result) (r .ensures) (g .0 .0) (g .0 .1 .0) (g .0 .1 .1 .0) (g .0 .1 .1 .1 .0) (g .0 .1 .1 .1 .1 .0) (g .0 .1 .1 .1 .1 .1 .0) (g .0 .1 .1 .1 .1 .1 .1 .0) (g .1) _ (ap₂ (λ (x y : ℕ). x + 8 * y) (m ∙ ap (λ (t : Bool). headLength t (g .0 .0) (g .0 .1 .1 .0) (g .0 .1 .1 .1 .1 .0)) t) (sym l)) (s .result) (s .ensures) (x .0 .0) (x .0 .1 .0) (x .0 .1 .1 .0) (x .0 .1 .1 .1 .0) (x .0 .1 .1 .1 .1 .0) (x .1)
+returns-3 c =
+    let at-measure-points = c .before .before .before .before in
+    let at-head-length = at-measure-points .before in
+    let at-has-path-type = at-head-length .before in
+    let at-wide = at-has-path-type .before .before in
+    let at-convert-front = at-wide .before .before in
+    let start = at-convert-front .before .before in
+    let a = start .args in let p = pathAt (a .b .now) (a .path) in let r = at-convert-front .convert-front in let g = at-wide .wide .given in let s = at-measure-points .measure-points in let x = c .before .before .more .given in let t = at-has-path-type .has-path-type .ensures in let m = at-head-length .head-length .ensures .is in let l = length-from (a .path .count) (a .b .now) (a .path .points) in path-measured (a .policy) (a .d) p (a .entry) (r .result) (r .ensures) (g .0 .0) (g .0 .1 .0) (g .0 .1 .1 .0) (g .0 .1 .1 .1 .0) (g .0 .1 .1 .1 .1 .0) (g .0 .1 .1 .1 .1 .1 .0) (g .0 .1 .1 .1 .1 .1 .1 .0) (g .1) _ (ap₂ (λ (x y : ℕ). x + 8 * y) (m ∙ ap (λ (t : Bool). headLength t (g .0 .0) (g .0 .1 .1 .0) (g .0 .1 .1 .1 .1 .0)) t) (sym l)) (s .result) (s .ensures) (x .0 .0) (x .0 .1 .0) (x .0 .1 .1 .0) (x .0 .1 .1 .1 .0) (x .0 .1 .1 .1 .1 .0) (x .1)
 
 pub measure-path-spec : {M : Type 1} → statement M
 measure-path-spec =

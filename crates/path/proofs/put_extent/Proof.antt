@@ -17,10 +17,17 @@ put-opt-long-at-requires-3 : tie.Need-put-opt-long-at-requires-3
 put-opt-long-at-requires-3 c κs = search needs
 
 same-length : tie.Need-same-length
-same-length c = c .before .before .put-opt-long-at3 .ensures .long ∙ c .before .before .before .before .before .before .put-opt-long-at2 .ensures .long ∙ c .before .before .before .before .before .before .before .before .before .before .put-opt-long-at .ensures .long
+same-length c =
+    let at-put-opt-long-at2 = c .before .before .before .before .before .before in
+    let at-put-opt-long-at = at-put-opt-long-at2 .before .before .before .before in
+    c .before .before .put-opt-long-at3 .ensures .long ∙ at-put-opt-long-at2 .put-opt-long-at2 .ensures .long ∙ at-put-opt-long-at .put-opt-long-at .ensures .long
 
 returns : tie.Need-returns
-returns c = let a = c .before .before .before .before .before .before .before .before .before .before .before .before .before .args in let f = c .before .before .before .before .before .before .before .before .before .before .before .before .before .fits in extent-at (a .wide) (a .begun) (a .ended) (toZ-ofZ w32 (a .width) (f .width)) (toZ-ofZ w32 (a .begin) (f .begin)) (toZ-ofZ w32 (a .end) (f .end)) (c .before .before .before .before .before .before .before .before .before .before .put-opt-long-at .ensures) (c .before .before .before .before .before .before .put-opt-long-at2 .ensures) (c .before .before .put-opt-long-at3 .ensures)
+returns c =
+    let at-put-opt-long-at2 = c .before .before .before .before .before .before in
+    let at-put-opt-long-at = at-put-opt-long-at2 .before .before .before .before in
+    let start = at-put-opt-long-at .before .before .before in
+    let a = start .args in let f = start .fits in extent-at (a .wide) (a .begun) (a .ended) (toZ-ofZ w32 (a .width) (f .width)) (toZ-ofZ w32 (a .begin) (f .begin)) (toZ-ofZ w32 (a .end) (f .end)) (at-put-opt-long-at .put-opt-long-at .ensures) (at-put-opt-long-at2 .put-opt-long-at2 .ensures) (c .before .before .put-opt-long-at3 .ensures)
 
 pub put-extent-spec : {M : Type 1} → statement M
 put-extent-spec =

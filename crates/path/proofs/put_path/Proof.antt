@@ -6,10 +6,10 @@ use mir.Syntax.{w32}
 use mir.Val.{SFits}
 use mir.ValLaws.{toZ-ofZ}
 use borrow.Author.Needs.{needs}
-use Rattle.records.specs.Bytes.{optionOf}
-use Rattle.forms.specs.Forms.{pathAt}
+use Rattle.records.specs.code.Bytes.{optionOf}
+use Rattle.forms.specs.code.Forms.{pathAt}
 use Rattle.points.proofs.WalkLaws.{length-from}
-use Rattle.path.specs.Front.{writeFront, ExtentFits, GivesExtent}
+use Rattle.path.specs.code.Front.{writeFront, ExtentFits, GivesExtent}
 use Rattle.path.proofs.FrontLaws.{front-counted, points-succeed, front-past, front-never}
 use Rattle.path.proofs.LengthLaws.{type-back, path-room}
 use Rattle.path.proofs.PathLaws.{path-written}
@@ -37,39 +37,47 @@ has-path-type-requires c κs = search needs
 put-head-requires : tie.Need-put-head-requires
 unfolding pathAt
 put-head-requires c κs =
-    let a = c .before .before .before .before .before .before .before .before .args in
+    let at-wide = c .before .before .before in
+    let at-convert-lengths = at-wide .before .before in
+    let start-2 = at-convert-lengths .before .before .before in
+    let a = start-2 .args in
     let p = pathAt (a .b .now) (a .path) in
-    let r = c .before .before .before .before .before .convert-lengths .result in
-    let h = front (c .before .before .before .before .before) in
-    let g = c .before .before .before .wide .given in
+    let r = at-convert-lengths .convert-lengths .result in
+    let h = front (at-convert-lengths) in
+    let g = at-wide .wide .given in
     let l = length-from (a .path .count) (a .b .now) (a .path .points) in
     let k = front-counted (a .policy) (a .d) p (a .entry) r h (g .0 .0) (g .0 .1 .0) (g .0 .1 .1 .0) (g .0 .1 .1 .1 .0) (g .0 .1 .1 .1 .1 .0) (g .0 .1 .1 .1 .1 .1 .0) (g .0 .1 .1 .1 .1 .1 .1 .0) (g .1) in
     let k1 = k .1 in
     let f = subst (ExtentFits p (a .entry .count)) (g .1) (h .fits) in
     let t = c .before .has-path-type in
-    let room = path-room p (t .result) (g .0 .0) (g .0 .1 .1 .0) (g .0 .1 .1 .1 .1 .0) (a .start) _ (t .ensures) (f .wide-is) (f .begun-is) (f .ended-is) (c .before .before .before .before .before .before .before .before .pre .1 .1 .1) in
+    let room = path-room p (t .result) (g .0 .0) (g .0 .1 .1 .0) (g .0 .1 .1 .1 .1 .0) (a .start) _ (t .ensures) (f .wide-is) (f .begun-is) (f .ended-is) (start-2 .pre .1 .1 .1) in
     (omega arith, omega arith)
 
 put-points-requires : tie.Need-put-points-requires
 unfolding pathAt
 put-points-requires c κs =
-    let a = c .before .before .before .before .before .before .before .before .before .before .before .before .args in
+    let at-put-head = c .before .before .before in
+    let at-has-path-type = at-put-head .before .before in
+    let at-wide = at-has-path-type .before .before in
+    let at-convert-lengths = at-wide .before .before in
+    let start-2 = at-convert-lengths .before .before .before in
+    let a = start-2 .args in
     let p = pathAt (a .b .now) (a .path) in
-    let r = c .before .before .before .before .before .before .before .before .before .convert-lengths .result in
-    let h = front (c .before .before .before .before .before .before .before .before .before) in
-    let g = c .before .before .before .before .before .before .before .wide .given in
+    let r = at-convert-lengths .convert-lengths .result in
+    let h = front (at-convert-lengths) in
+    let g = at-wide .wide .given in
     let l = length-from (a .path .count) (a .b .now) (a .path .points) in
     let k = front-counted (a .policy) (a .d) p (a .entry) r h (g .0 .0) (g .0 .1 .0) (g .0 .1 .1 .0) (g .0 .1 .1 .1 .0) (g .0 .1 .1 .1 .1 .0) (g .0 .1 .1 .1 .1 .1 .0) (g .0 .1 .1 .1 .1 .1 .1 .0) (g .1) in
     let k1 = k .1 in
     let f = subst (ExtentFits p (a .entry .count)) (g .1) (h .fits) in
     let q = f .grown in
-    let t = c .before .before .before .before .before .has-path-type in
-    let room = path-room p (t .result) (g .0 .0) (g .0 .1 .1 .0) (g .0 .1 .1 .1 .1 .0) (a .start) _ (t .ensures) (f .wide-is) (f .begun-is) (f .ended-is) (c .before .before .before .before .before .before .before .before .before .before .before .before .pre .1 .1 .1) in
-    let j = c .before .before .before .before .before .before .before .before .before .before .before .before .pre .1 .1 .0 in
-    let u = c .before .before .before .put-head .ensures in
+    let t = at-has-path-type .has-path-type in
+    let room = path-room p (t .result) (g .0 .0) (g .0 .1 .1 .0) (g .0 .1 .1 .1 .1 .0) (a .start) _ (t .ensures) (f .wide-is) (f .begun-is) (f .ended-is) (start-2 .pre .1 .1 .1) in
+    let j = start-2 .pre .1 .1 .0 in
+    let u = at-put-head .put-head .ensures in
     let e = u .end in
     let o = u .long in
-    (c .before .before .before .before .before .before .before .before .before .before .before .before .pre .0 .points-in, (omega arith, (points-succeed (a .policy) (a .d) p (c .before .before .before .before .before .before .before .before .before .before .before .before .pre .1 .0), (omega arith, omega arith))))
+    (start-2 .pre .0 .points-in, (omega arith, (points-succeed (a .policy) (a .d) p (start-2 .pre .1 .0), (omega arith, omega arith))))
 
 returns : tie.Need-returns
 returns c =
@@ -85,17 +93,23 @@ same-length c =
 returns-2 : tie.Need-returns-2
 unfolding pathAt
 returns-2 c =
-    let a = c .before .before .before .before .before .before .before .before .before .before .before .before .before .before .before .args in
+    let at-put-head = c .before .before .before .before .before .before in
+    let at-has-path-type = at-put-head .before .before in
+    let at-known-told = at-has-path-type .before in
+    let at-wide = at-known-told .before in
+    let at-convert-lengths = at-wide .before .before in
+    let start = at-convert-lengths .before .before .before in
+    let a = start .args in
     let p = pathAt (a .b .now) (a .path) in
-    let g = c .before .before .before .before .before .before .before .before .before .before .wide .given in
-    let z = c .before .before .before .before .before .before .before .before .before .known-told .given in
+    let g = at-wide .wide .given in
+    let z = at-known-told .known-told .given in
     let f1 : SFits w32 (g .0 .1 .0) = search needs in
     let f2 : SFits w32 (g .0 .1 .1 .1 .0) = search needs in
     let f3 : SFits w32 (g .0 .1 .1 .1 .1 .1 .0) = search needs in
     let l = length-from (a .path .count) (a .b .now) (a .path .points) in
-    path-written (a .policy) (a .d) p (a .entry) (c .before .before .before .before .before .before .before .before .before .before .before .before .convert-lengths .result) (front (c .before .before .before .before .before .before .before .before .before .before .before .before)) (g .0 .0) (g .0 .1 .0) (g .0 .1 .1 .0) (g .0 .1 .1 .1 .0) (g .0 .1 .1 .1 .1 .0) (g .0 .1 .1 .1 .1 .1 .0) (g .0 .1 .1 .1 .1 .1 .1 .0) (g .1)
-    _ (ap (λ (t : Bool). optionOf t (a .path .pathtype)) (c .before .before .before .before .before .before .before .before .has-path-type .ensures) ∙ type-back (a .path .pathtype)) (a .path .count) (sym l)
-    _ _ _ (toZ-ofZ w32 (g .0 .1 .0) f1) (toZ-ofZ w32 (g .0 .1 .1 .1 .0) f2) (toZ-ofZ w32 (g .0 .1 .1 .1 .1 .1 .0) f3) _ _ _ _ _ (c .before .before .before .before .before .before .put-head .ensures) _ _ (c .before .before .put-points .ensures)
+    path-written (a .policy) (a .d) p (a .entry) (at-convert-lengths .convert-lengths .result) (front (at-convert-lengths)) (g .0 .0) (g .0 .1 .0) (g .0 .1 .1 .0) (g .0 .1 .1 .1 .0) (g .0 .1 .1 .1 .1 .0) (g .0 .1 .1 .1 .1 .1 .0) (g .0 .1 .1 .1 .1 .1 .1 .0) (g .1)
+    _ (ap (λ (t : Bool). optionOf t (a .path .pathtype)) (at-has-path-type .has-path-type .ensures) ∙ type-back (a .path .pathtype)) (a .path .count) (sym l)
+    _ _ _ (toZ-ofZ w32 (g .0 .1 .0) f1) (toZ-ofZ w32 (g .0 .1 .1 .1 .0) f2) (toZ-ofZ w32 (g .0 .1 .1 .1 .1 .1 .0) f3) _ _ _ _ _ (at-put-head .put-head .ensures) _ _ (c .before .before .put-points .ensures)
 
 pub put-path-spec : {M : Type 1} → statement M
 put-path-spec =

@@ -6,7 +6,7 @@ use Prim.Native.Nat.{ℕ, _+_, _*_, _-_, _≤_}
 use lib.Dec.{T}
 use lib.Ieee.{Float}
 use Rattle.binary64.proofs.Bits.{same-no-nan}
-use Rattle.points.specs.Integers.{AllPass}
+use Rattle.points.specs.code.Integers.{AllPass}
 use Rattle.points.proofs.IntegerLaws.{bits-pass, all-start, all-turn, all-end}
 use borrow.Author.Needs.{needs}
 use borrow.Author.Tests.{not-false}
@@ -59,17 +59,22 @@ loop-less c = search needs
 
 loop-again : tie.Need-loop-again Inv-loop μ-loop
 loop-again c =
-    let a = c .before .before .before .before .before .before .before .before .args in
-    let l = c .before .before .before .before .before .loop in
+    let at-in-unit = c .before .before .before in
+    let at-loop-test = at-in-unit .before in
+    let at-loop = at-loop-test .before in
+    let at-if1 = at-loop .before in
+    let start = at-if1 .before .before in
+    let a = start .args in
+    let l = at-loop .loop in
     let v = l .inv in
-    let F = subst T (sym (c .before .before .before .before .before .before .before .before .good .0 .1)) tt in
-    let N = c .before .before .before .before .before .before .if1 .left in
-    let x = c .before .before .before .in-unit .ensures (not-false _ (c .before .before .if2 .left)) in
+    let F = subst T (sym (start .good .0 .1)) tt in
+    let N = at-if1 .if1 .left in
+    let x = at-in-unit .in-unit .ensures (not-false _ (c .before .before .if2 .left)) in
     let y = c .before .in-unit2 .ensures (not-false _ (c .if3 .left)) in
     record {
       within = search needs;
       place = search needs;
-      rest = λ h. v .rest (all-turn (a .d) (a .b .now) (a .n) (l .i) (l .at) (c .before .before .before .before .loop-test .taken) (bits-pass (a .d) F N (a .b .now) (l .at) (x .0) (x .1)) (bits-pass (a .d) F N (a .b .now) (l .at + 17) (y .0) (y .1)) h);
+      rest = λ h. v .rest (all-turn (a .d) (a .b .now) (a .n) (l .i) (l .at) (at-loop-test .loop-test .taken) (bits-pass (a .d) F N (a .b .now) (l .at) (x .0) (x .1)) (bits-pass (a .d) F N (a .b .now) (l .at + 17) (y .0) (y .1)) h);
     }
 
 returns-4 : tie.Need-returns-4 Inv-loop μ-loop

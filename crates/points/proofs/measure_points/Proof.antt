@@ -6,12 +6,12 @@ use lib.IntN.{ℤ}
 use mir.Syntax.{w32}
 use mir.Val.{SFits}
 use Rattle.units.specs.Point.{Point}
-use Rattle.conversion.specs.Fold.{run}
+use Rattle.conversion.specs.code.Fold.{run}
 use Rattle.conversion.specs.Points.{writePoints}
-use Rattle.forms.specs.Place.{pointsFrom}
-use Rattle.coordinate.specs.Coordinate.{PointGrown}
+use Rattle.forms.specs.code.Place.{pointsFrom}
+use Rattle.coordinate.specs.code.Coordinate.{PointGrown}
 use Rattle.points.specs.declared.Walked.the-variants as W
-use Rattle.points.specs.Walk.{through, walked}
+use Rattle.points.specs.code.Walk.{through, walked}
 use Rattle.points.proofs.WalkLaws.{point-back, go-on, go-stop, whole-first}
 use Rattle.points.proofs.IntegerLaws.{pass-measured}
 use borrow.Author.Needs.{needs}
@@ -61,9 +61,11 @@ returns-2 c =
 returns-3 : tie.Need-returns-3
 unfolding walked
 returns-3 c =
-    let a = c .before .before .before .before .before .before .before .before .args in
-    let p = c .before .before .before .before .before .before .before .before .pre in
-    let r = c .before .before .before .before .convert-point in
+    let at-convert-point = c .before .before .before .before in
+    let start = at-convert-point .before .before .before .before in
+    let a = start .args in
+    let p = start .pre in
+    let r = at-convert-point .convert-point in
     let g = c .before .before .x .given in
     let x = g .0 .0 in
     let y = g .0 .1 .0 in

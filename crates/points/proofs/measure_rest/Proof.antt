@@ -12,15 +12,15 @@ use mir.Syntax.{w32}
 use Rattle.units.specs.Point.{Point}
 use Rattle.conversion.specs.declared.Entry.{Entry}
 use Rattle.conversion.specs.declared.GdsRoundingPolicy.{GdsRoundingPolicy}
-use Rattle.conversion.specs.Fold.{run}
+use Rattle.conversion.specs.code.Fold.{run}
 use Rattle.conversion.specs.Points.{writePoint, writePoints}
-use Rattle.forms.specs.Place.{pointAt, pointsFrom}
+use Rattle.forms.specs.code.Place.{pointAt, pointsFrom}
 use Rattle.coordinate.specs.declared.Pointed.the-variants as P
-use Rattle.coordinate.specs.Coordinate.{Converts}
+use Rattle.coordinate.specs.code.Coordinate.{Converts}
 use Rattle.coordinate.proofs.ValueLaws.{point-recorded, point-plain, point-read}
 use Rattle.points.specs.declared.Walked.{Walked}
 use Rattle.points.specs.declared.Walked.the-variants as W
-use Rattle.points.specs.Walk.{through}
+use Rattle.points.specs.code.Walk.{through}
 use Rattle.points.proofs.WalkLaws.{pointOf, point-back, go-on, go-stop, go-end}
 use Rattle.points.proofs.measure_rest.Statement.{statement}
 use Rattle.points.proofs.measure_rest.Tie as tie
@@ -75,18 +75,24 @@ enum-known-refusal c = search needs
 returns : tie.Need-returns Inv-loop μ-loop
 unfolding pointAt
 returns c =
-    let a = c .before .before .before .before .before .before .before .before .before .before .before .before .args in
-    let f = c .before .before .before .before .before .before .before .before .before .before .before .before .fits in
-    let l = c .before .before .before .before .before .before .before .before .before .before .loop in
-    let x = c .before .before .before .before .before .before .before .before .convert-at in
-    let y = c .before .before .before .before .before .before .before .convert-at2 in
-    let r = c .before .before .before .record-point in
+    let at-record-point = c .before .before .before in
+    let at-convert-at2 = at-record-point .before .before .before .before in
+    let at-convert-at = at-convert-at2 .before in
+    let at-loop-test = at-convert-at .before in
+    let at-loop = at-loop-test .before in
+    let start = at-loop .before .before in
+    let a = start .args in
+    let f = start .fits in
+    let l = at-loop .loop in
+    let x = at-convert-at .convert-at in
+    let y = at-convert-at2 .convert-at2 in
+    let r = at-record-point .record-point in
     let h = point-recorded (a .policy) (a .d) (pointAt (a .b .now) (l .at)) (x .result) (y .result) (x .ensures) (y .ensures) 0 (l .i) (l .e) (r .result) (r .ensures) in
     let g = c .before .refusal .given in
     sym
     (sym (ap (λ (p : Point ℤ). left (a .policy) (a .d) (a .b .now) (a .n) 1 (a .from) (a .entry) p p) (point-back (a .x0) (a .y0) (f .x0) (f .y0)))
     ∙ l .inv .rest
-    ∙ go-stop W.Refused (a .policy) (a .d) (a .n) (l .i) (a .b .now) (l .at) (l .e) (through (pointOf (ofZ w32 (a .x0)) (ofZ w32 (a .y0))) (pointOf (l .x1) (l .y1))) (c .before .before .before .before .before .before .before .before .before .loop-test .taken) (r .result) h (g .0 .0) (g .1))
+    ∙ go-stop W.Refused (a .policy) (a .d) (a .n) (l .i) (a .b .now) (l .at) (l .e) (through (pointOf (ofZ w32 (a .x0)) (ofZ w32 (a .y0))) (pointOf (l .x1) (l .y1))) (at-loop-test .loop-test .taken) (r .result) h (g .0 .0) (g .1))
 
 enum-known-x-2 : tie.Need-enum-known-x-2 Inv-loop μ-loop
 enum-known-x-2 c = search needs

@@ -11,7 +11,7 @@ use Rattle.big_endian.specs.Buffer.{splice}
 use Rattle.big_endian.proofs.BufferLaws.{length-at}
 use Rattle.stream.specs.Records.{pointsBytes}
 use Rattle.coordinate.proofs.ValueLaws.{same-point}
-use Rattle.points.specs.Integers.{integersFrom}
+use Rattle.points.specs.code.Integers.{integersFrom}
 use Rattle.points.proofs.IntegerLaws.{length-integers, left, left-start, left-turn, left-end}
 use borrow.Author.Needs.{needs}
 use Rattle.points.proofs.put_integers.Statement.{statement}
@@ -56,11 +56,16 @@ loop-less c = search needs
 
 loop-again : tie.Need-loop-again Inv-loop μ-loop
 loop-again c =
-    let a = c .before .before .before .before .before .before .before .before .before .before .args in
-    let l = c .before .before .before .before .before .before .before .loop in
+    let at-integer-at2 = c .before .before .before in
+    let at-integer-at = at-integer-at2 .before in
+    let at-loop-test = at-integer-at .before .before in
+    let at-loop = at-loop-test .before in
+    let start = at-loop .before .before .before in
+    let a = start .args in
+    let l = at-loop .loop in
     let v = l .inv in
-    let x = c .before .before .before .before .integer-at in
-    let y = c .before .before .before .integer-at2 in
+    let x = at-integer-at .integer-at in
+    let y = at-integer-at2 .integer-at2 in
     let f : SFits w32 (x .result) = search needs in
     let g : SFits w32 (y .result) = search needs in
     let w = same-point (toZ-ofZ w32 (x .result) f ∙ x .ensures) (toZ-ofZ w32 (y .result) g ∙ y .ensures) (c .before .before .put-point .ensures) in
@@ -70,7 +75,7 @@ loop-again c =
       place = omega arith;
       count = omega arith;
       long = length-at w ∙ v .long;
-      rest = v .rest ∙ left-turn (a .b .now) (a .n) (l .i) (l .at) (l .to) _ (l .out) _ (c .before .before .before .before .before .before .loop-test .taken) w;
+      rest = v .rest ∙ left-turn (a .b .now) (a .n) (l .i) (l .at) (l .to) _ (l .out) _ (at-loop-test .loop-test .taken) w;
     }
 
 same-length : tie.Need-same-length Inv-loop μ-loop

@@ -15,8 +15,11 @@ same-length c = search needs
 
 returns : tie.Need-returns
 returns c =
-    let a = c .before .before .before .before .before .before .before .before .args in
-    pass-put (a .policy) (a .d) (a .b .now) (a .n) (a .from) (c .before .before .before .before .before .all-pass .ensures (c .before .before .before .before .if1 .taken)) (a .entry) (c .before .before .put-integers .ensures)
+    let at-if1 = c .before .before .before .before in
+    let at-all-pass = at-if1 .before in
+    let start = at-all-pass .before .before .before in
+    let a = start .args in
+    pass-put (a .policy) (a .d) (a .b .now) (a .n) (a .from) (at-all-pass .all-pass .ensures (at-if1 .if1 .taken)) (a .entry) (c .before .before .put-integers .ensures)
 
 put-converted-requires : tie.Need-put-converted-requires
 put-converted-requires c κs = search needs

@@ -32,7 +32,11 @@ same-length : tie.Need-same-length
 same-length c = search needs
 
 returns : tie.Need-returns
-returns c = let s = c .before .before .before .before .before .before .before .before .before .before .before .before in property-placed (s .args .b .now) (s .args .at) (s .args .m) (c .before .before .before .before .before .before .before .before .before .u16-at .result) (c .before .before .before .before .before .before .before .before .before .u16-at .ensures) (s .pre .0) (s .pre .1 .1 .0) (c .before .before .before .before .before .before .before .put-word-at .ensures) (c .before .before .put-string-at .ensures)
+returns c =
+    let at-put-word-at = c .before .before .before .before .before .before .before in
+    let at-u16-at = at-put-word-at .before .before in
+    let earlier = at-u16-at .before .before .before in
+    let s = earlier in property-placed (s .args .b .now) (s .args .at) (s .args .m) (at-u16-at .u16-at .result) (at-u16-at .u16-at .ensures) (s .pre .0) (s .pre .1 .1 .0) (at-put-word-at .put-word-at .ensures) (c .before .before .put-string-at .ensures)
 
 pub put-property-at-spec : {M : Type 1} → statement M
 put-property-at-spec =

@@ -6,13 +6,13 @@ use native.Mathlib.Omega.{arith}
 use borrow.Author.Needs.{needs}
 use lib.ListN.{length}
 use Rattle.conversion.specs.declared.Entry.{Entry}
-use Rattle.conversion.specs.Fold.{run}
+use Rattle.conversion.specs.code.Fold.{run}
 use Rattle.conversion.proofs.FoldLaws.{run-same}
 use Rattle.cell.specs.Write.{writeProperties}
-use Rattle.forms.specs.Place.{placeFrom, propertyEnd, propertiesFrom}
-use Rattle.writing.specs.Steps.{Succeeds}
+use Rattle.forms.specs.code.Place.{placeFrom, propertyEnd, propertiesFrom}
+use Rattle.writing.specs.code.Steps.{Succeeds}
 use Rattle.writing.proofs.StepLaws.{Outcome, stopped, putting, writes}
-use Rattle.properties.specs.Tail.{tailBytes, tailLength}
+use Rattle.properties.specs.code.Tail.{tailBytes, tailLength}
 use Rattle.properties.proofs.TailLaws.{value-fits, rest-succeeds, tail-start, tail-turn, tail-end, put-turn, put-end, length-start, length-turn, length-end, place-start, place-in, place-next}
 use Rattle.properties.proofs.put_tail.Statement.{statement}
 use Rattle.properties.proofs.put_tail.Tie as tie
@@ -73,18 +73,26 @@ put-property-at-requires c κs =
 
 add-at : tie.Need-add-at Inv-loop μ-loop
 add-at c =
-    let b = c .before .before .before .before .before .before .before .before .before .args .b .now in
-    let l = c .before .before .before .before .before .before .loop in
-    let g = c .before .before .before .before .value-length .ensures in
-    let inside = subst (λ (x : ℕ). l .at + 4 + x ≤ length b) (sym g) (place-in (c .before .before .before .before .before .before .before .before .before .args .n) (l .i) b (l .at) (c .before .before .before .before .before .loop-test .taken) (l .inv .place)) in
+    let at-value-length = c .before .before .before .before in
+    let at-loop-test = at-value-length .before in
+    let at-loop = at-loop-test .before in
+    let start = at-loop .before .before .before in
+    let b = start .args .b .now in
+    let l = at-loop .loop in
+    let g = at-value-length .value-length .ensures in
+    let inside = subst (λ (x : ℕ). l .at + 4 + x ≤ length b) (sym g) (place-in (start .args .n) (l .i) b (l .at) (at-loop-test .loop-test .taken) (l .inv .place)) in
     search needs
 
 add-at-2 : tie.Need-add-at-2 Inv-loop μ-loop
 add-at-2 c =
-    let b = c .before .before .before .before .before .before .before .before .before .args .b .now in
-    let l = c .before .before .before .before .before .before .loop in
-    let g = c .before .before .before .before .value-length .ensures in
-    let inside = subst (λ (x : ℕ). l .at + 4 + x ≤ length b) (sym g) (place-in (c .before .before .before .before .before .before .before .before .before .args .n) (l .i) b (l .at) (c .before .before .before .before .before .loop-test .taken) (l .inv .place)) in
+    let at-value-length = c .before .before .before .before in
+    let at-loop-test = at-value-length .before in
+    let at-loop = at-loop-test .before in
+    let start = at-loop .before .before .before in
+    let b = start .args .b .now in
+    let l = at-loop .loop in
+    let g = at-value-length .value-length .ensures in
+    let inside = subst (λ (x : ℕ). l .at + 4 + x ≤ length b) (sym g) (place-in (start .args .n) (l .i) b (l .at) (at-loop-test .loop-test .taken) (l .inv .place)) in
     search needs
 
 add-i : tie.Need-add-i Inv-loop μ-loop
@@ -95,16 +103,20 @@ loop-less c = search needs
 
 loop-again : tie.Need-loop-again Inv-loop μ-loop
 loop-again c =
-    let a = c .before .before .before .before .before .before .before .before .before .args in
+    let at-value-length = c .before .before .before .before in
+    let at-loop-test = at-value-length .before in
+    let at-loop = at-loop-test .before in
+    let start = at-loop .before .before .before in
+    let a = start .args in
     let b = a .b .now in
     let n = a .n in
-    let l = c .before .before .before .before .before .before .loop in
+    let l = at-loop .loop in
     let i = l .i in
     let at = l .at in
     let v = l .inv in
-    let h = c .before .before .before .before .before .loop-test .taken in
-    let m = c .before .before .before .before .value-length .result in
-    let g = c .before .before .before .before .value-length .ensures in
+    let h = at-loop-test .loop-test .taken in
+    let m = at-value-length .value-length .result in
+    let g = at-value-length .value-length .ensures in
     let inside : at + 4 + m ≤ length b = subst (λ (x : ℕ). at + 4 + x ≤ length b) (sym g) (place-in n i b at h (v .place)) in
     let w = c .before .before .put-property-at .ensures in
     let r = length-turn n i b at m h g in
@@ -135,15 +147,18 @@ same-length c = c .before .before .put-empty-at .ensures .long ∙ c .before .be
 
 returns : tie.Need-returns Inv-loop μ-loop
 returns c =
-    let a = c .before .before .before .before .before .before .before .before .args in
-    let l = c .before .before .before .before .before .loop in
+    let at-loop-test = c .before .before .before .before in
+    let at-loop = at-loop-test .before in
+    let start-2 = at-loop .before .before .before in
+    let a = start-2 .args in
+    let l = at-loop .loop in
     let v = l .inv in
     let w = c .before .before .put-empty-at .ensures in
-    let r = length-end (a .n) (l .i) (a .b .now) (l .at) (c .before .before .before .before .loop-test .left) in
+    let r = length-end (a .n) (l .i) (a .b .now) (l .at) (at-loop-test .loop-test .left) in
     let k = v .room in
     let z = w .end in
     writes tailBytes (a .entry) (writeProperties (propertiesFrom (a .n) (a .b .now) (a .from))) (a .start) (a .out .now) _ _ (a .entry)
-    (v .rest ∙ tail-end stopped (a .entry) _ (a .n) (l .i) (a .b .now) (l .at) (c .before .before .before .before .loop-test .left) ∙ put-end _ _ _ _ (a .entry) w) (omega arith)
+    (v .rest ∙ tail-end stopped (a .entry) _ (a .n) (l .i) (a .b .now) (l .at) (at-loop-test .loop-test .left) ∙ put-end _ _ _ _ (a .entry) w) (omega arith)
 
 pub put-tail-spec : {M : Type 1} → statement M
 put-tail-spec =

@@ -20,7 +20,11 @@ same-length : tie.Need-same-length
 same-length c = search needs
 
 returns : tie.Need-returns
-returns c = let s = c .before .before .before .before .before .before .before .before .before .before .before .before .before in record-at (colrowRecord (s .args .columns) (s .args .rows)) 8 refl (c .before .before .before .before .before .before .before .before .before .before .put-head-at .ensures .wrote) (then-at (c .before .before .before .before .before .before .put-u16-at .ensures) (c .before .before .put-u16-at2 .ensures))
+returns c =
+    let at-put-u16-at = c .before .before .before .before .before .before in
+    let at-put-head-at = at-put-u16-at .before .before .before .before in
+    let earlier = at-put-head-at .before .before .before in
+    let s = earlier in record-at (colrowRecord (s .args .columns) (s .args .rows)) 8 refl (at-put-head-at .put-head-at .ensures .wrote) (then-at (at-put-u16-at .put-u16-at .ensures) (c .before .before .put-u16-at2 .ensures))
 
 pub put-colrow-at-spec : {M : Type 1} → statement M
 put-colrow-at-spec =

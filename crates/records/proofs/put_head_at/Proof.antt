@@ -20,10 +20,13 @@ same-length c = search needs
 
 returns : tie.Need-returns
 returns c =
-    let s = c .before .before .before .before .before .before .before .before .before .before .before .before .before in
+    let at-put-u8-at = c .before .before .before .before .before .before in
+    let at-put-u16-at = at-put-u8-at .before .before .before .before in
+    let earlier = at-put-u16-at .before .before .before in
+    let s = earlier in
     placed
-    (then-at (c .before .before .before .before .before .before .before .before .before .before .put-u16-at .ensures)
-    (then-at (same-bytes (byte-is (s .args .code) (s .fits .code .fits)) (c .before .before .before .before .before .before .put-u8-at .ensures))
+    (then-at (at-put-u16-at .put-u16-at .ensures)
+    (then-at (same-bytes (byte-is (s .args .code) (s .fits .code .fits)) (at-put-u8-at .put-u8-at .ensures))
     (same-bytes (byte-is (s .args .data-type) (s .fits .data-type .fits)) (c .before .before .put-u8-at2 .ensures))))
     refl
 

@@ -23,7 +23,10 @@ same-length : tie.Need-same-length
 same-length c = search needs
 
 returns : tie.Need-returns
-returns c = let s = c .before .before .before .before .before .before .before .before .before in record-at (longRecord (s .args .code) (s .args .q)) 8 refl (c .before .before .before .before .before .before .put-head-at .ensures .wrote) (same-bytes (ap (λ (z : ℤ). bytesOf 4 (ofZ w32 z)) (toZ-ofZ w32 (s .args .q) (s .fits .q))) (c .before .before .put-i32-at .ensures))
+returns c =
+    let at-put-head-at = c .before .before .before .before .before .before in
+    let earlier = at-put-head-at .before .before .before in
+    let s = earlier in record-at (longRecord (s .args .code) (s .args .q)) 8 refl (at-put-head-at .put-head-at .ensures .wrote) (same-bytes (ap (λ (z : ℤ). bytesOf 4 (ofZ w32 z)) (toZ-ofZ w32 (s .args .q) (s .fits .q))) (c .before .before .put-i32-at .ensures))
 
 pub put-long-at-spec : {M : Type 1} → statement M
 put-long-at-spec =

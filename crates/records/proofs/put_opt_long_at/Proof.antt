@@ -5,7 +5,7 @@ use mathlib.Core.Path.{subst}
 use lib.IntN.{ℤ}
 use mir.Syntax.{w32}
 use mir.ValLaws.{toZ-ofZ}
-use Rattle.records.specs.Bytes.{Recorded}
+use Rattle.records.specs.code.Bytes.{Recorded}
 use borrow.Author.Needs.{needs}
 use Rattle.records.proofs.put_opt_long_at.Statement.{statement}
 use Rattle.records.proofs.put_opt_long_at.Tie as tie

@@ -17,7 +17,10 @@ same-length : tie.Need-same-length
 same-length c = search needs
 
 returns : tie.Need-returns
-returns c = let s = c .before .before .before .before .before .before .before .before .before in record-at (realRecord (s .args .code) (bytesOf 8 (s .args .pattern))) 12 refl (c .before .before .before .before .before .before .put-head-at .ensures .wrote) (c .before .before .put-u64-at .ensures)
+returns c =
+    let at-put-head-at = c .before .before .before .before .before .before in
+    let earlier = at-put-head-at .before .before .before in
+    let s = earlier in record-at (realRecord (s .args .code) (bytesOf 8 (s .args .pattern))) 12 refl (at-put-head-at .put-head-at .ensures .wrote) (c .before .before .put-u64-at .ensures)
 
 pub put-real-at-spec : {M : Type 1} → statement M
 put-real-at-spec =

@@ -20,7 +20,11 @@ same-length : tie.Need-same-length
 same-length c = search needs
 
 returns : tie.Need-returns
-returns c = let s = c .before .before .before .before .before .before .before .before .before .before .before in string-even (s .args .code) (s .args .s .now) (c .before .before .before .before .before .before .before .before .if1 .taken) (c .before .before .before .before .before .before .put-head-at .ensures .wrote) (c .before .before .put-bytes-at .ensures .wrote)
+returns c =
+    let at-put-head-at = c .before .before .before .before .before .before in
+    let at-if1 = at-put-head-at .before .before in
+    let earlier = at-if1 .before .before .before in
+    let s = earlier in string-even (s .args .code) (s .args .s .now) (at-if1 .if1 .taken) (at-put-head-at .put-head-at .ensures .wrote) (c .before .before .put-bytes-at .ensures .wrote)
 
 add-put-head-at-2 : tie.Need-add-put-head-at-2
 add-put-head-at-2 c = search needs
@@ -41,7 +45,12 @@ same-length-2 : tie.Need-same-length-2
 same-length-2 c = search needs
 
 returns-2 : tie.Need-returns-2
-returns-2 c = let s = c .before .before .before .before .before .before .before .before .before .before .before .before .before .before .before in string-odd (s .args .code) (s .args .s .now) (c .before .before .before .before .before .before .before .before .before .before .before .before .if1 .left) (c .before .before .before .before .before .before .before .before .before .before .put-head-at2 .ensures .wrote) (c .before .before .before .before .before .before .put-bytes-at2 .ensures .wrote) (c .before .before .put-u8-at .ensures)
+returns-2 c =
+    let at-put-bytes-at2 = c .before .before .before .before .before .before in
+    let at-put-head-at2 = at-put-bytes-at2 .before .before .before .before in
+    let at-if1 = at-put-head-at2 .before .before in
+    let earlier = at-if1 .before .before .before in
+    let s = earlier in string-odd (s .args .code) (s .args .s .now) (at-if1 .if1 .left) (at-put-head-at2 .put-head-at2 .ensures .wrote) (at-put-bytes-at2 .put-bytes-at2 .ensures .wrote) (c .before .before .put-u8-at .ensures)
 
 pub put-string-at-spec : {M : Type 1} → statement M
 put-string-at-spec =

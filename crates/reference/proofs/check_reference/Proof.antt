@@ -41,37 +41,68 @@ within-requires-2 c κs = search needs
 
 returns-3 : tie.Need-returns-3
 returns-3 c =
-    let a = c .before .before .before .before .before .before .before .before .before .before .args in
-    let n = c .before .before .before .before .before .before .before .validate-structure-name in
-    let h = n .ensures ∙ ap isName (c .before .before .before .before .before .before .before .before .string-at .ensures) in
-    rows-stop (a .b .now) (a .s) (c .before .before .before .before .before .before .before .before .before .before .pre .name-in) (n .result) h (not-false _ (c .before .before .before .before .before .before .if1 .left)) (c .before .before .before .before .within .result) (c .before .before .before .before .within .ensures) (not-false _ (c .before .before .before .if2 .left)) (c .before .within2 .result) (c .before .within2 .ensures) (not-true _ (c .if3 .taken))
+    let at-if2 = c .before .before .before in
+    let at-within = at-if2 .before in
+    let at-if1 = at-within .before .before in
+    let at-validate-structure-name = at-if1 .before in
+    let at-string-at = at-validate-structure-name .before in
+    let start = at-string-at .before .before in
+    let a = start .args in
+    let n = at-validate-structure-name .validate-structure-name in
+    let h = n .ensures ∙ ap isName (at-string-at .string-at .ensures) in
+    rows-stop (a .b .now) (a .s) (start .pre .name-in) (n .result) h (not-false _ (at-if1 .if1 .left)) (at-within .within .result) (at-within .within .ensures) (not-false _ (at-if2 .if2 .left)) (c .before .within2 .result) (c .before .within2 .ensures) (not-true _ (c .if3 .taken))
 
 lacks-spacing-requires : tie.Need-lacks-spacing-requires
 lacks-spacing-requires c κs = search needs
 
 returns-4 : tie.Need-returns-4
 returns-4 c =
-    let a = c .before .before .before .before .before .before .before .before .before .before .before .before .args in
-    let n = c .before .before .before .before .before .before .before .before .before .validate-structure-name in
-    let h = n .ensures ∙ ap isName (c .before .before .before .before .before .before .before .before .before .before .string-at .ensures) in
-    column-lacks (a .b .now) (a .s) (c .before .before .before .before .before .before .before .before .before .before .before .before .pre .name-in) (n .result) h (not-false _ (c .before .before .before .before .before .before .before .before .if1 .left)) (c .before .before .before .before .before .before .within .result) (c .before .before .before .before .before .before .within .ensures) (not-false _ (c .before .before .before .before .before .if2 .left)) (c .before .before .before .within2 .result) (c .before .before .before .within2 .ensures) (not-false _ (c .before .before .if3 .left)) (c .before .lacks-spacing .result) (c .before .lacks-spacing .ensures) (c .if4 .taken)
+    let at-within2 = c .before .before .before in
+    let at-if2 = at-within2 .before .before in
+    let at-within = at-if2 .before in
+    let at-if1 = at-within .before .before in
+    let at-validate-structure-name = at-if1 .before in
+    let at-string-at = at-validate-structure-name .before in
+    let start = at-string-at .before .before in
+    let a = start .args in
+    let n = at-validate-structure-name .validate-structure-name in
+    let h = n .ensures ∙ ap isName (at-string-at .string-at .ensures) in
+    column-lacks (a .b .now) (a .s) (start .pre .name-in) (n .result) h (not-false _ (at-if1 .if1 .left)) (at-within .within .result) (at-within .within .ensures) (not-false _ (at-if2 .if2 .left)) (at-within2 .within2 .result) (at-within2 .within2 .ensures) (not-false _ (c .before .before .if3 .left)) (c .before .lacks-spacing .result) (c .before .lacks-spacing .ensures) (c .if4 .taken)
 
 lacks-spacing-requires-2 : tie.Need-lacks-spacing-requires-2
 lacks-spacing-requires-2 c κs = search needs
 
 returns-5 : tie.Need-returns-5
 returns-5 c =
-    let a = c .before .before .before .before .before .before .before .before .before .before .before .before .before .before .args in
-    let n = c .before .before .before .before .before .before .before .before .before .before .before .validate-structure-name in
-    let h = n .ensures ∙ ap isName (c .before .before .before .before .before .before .before .before .before .before .before .before .string-at .ensures) in
-    row-lacks (a .b .now) (a .s) (c .before .before .before .before .before .before .before .before .before .before .before .before .before .before .pre .name-in) (n .result) h (not-false _ (c .before .before .before .before .before .before .before .before .before .before .if1 .left)) (c .before .before .before .before .before .before .before .before .within .result) (c .before .before .before .before .before .before .before .before .within .ensures) (not-false _ (c .before .before .before .before .before .before .before .if2 .left)) (c .before .before .before .before .before .within2 .result) (c .before .before .before .before .before .within2 .ensures) (not-false _ (c .before .before .before .before .if3 .left)) (c .before .before .before .lacks-spacing .result) (c .before .before .before .lacks-spacing .ensures) (c .before .before .if4 .left) (c .before .lacks-spacing2 .result) (c .before .lacks-spacing2 .ensures) (c .if5 .taken)
+    let at-lacks-spacing = c .before .before .before in
+    let at-if3 = at-lacks-spacing .before in
+    let at-within2 = at-if3 .before in
+    let at-if2 = at-within2 .before .before in
+    let at-within = at-if2 .before in
+    let at-if1 = at-within .before .before in
+    let at-validate-structure-name = at-if1 .before in
+    let at-string-at = at-validate-structure-name .before in
+    let start = at-string-at .before .before in
+    let a = start .args in
+    let n = at-validate-structure-name .validate-structure-name in
+    let h = n .ensures ∙ ap isName (at-string-at .string-at .ensures) in
+    row-lacks (a .b .now) (a .s) (start .pre .name-in) (n .result) h (not-false _ (at-if1 .if1 .left)) (at-within .within .result) (at-within .within .ensures) (not-false _ (at-if2 .if2 .left)) (at-within2 .within2 .result) (at-within2 .within2 .ensures) (not-false _ (at-if3 .if3 .left)) (at-lacks-spacing .lacks-spacing .result) (at-lacks-spacing .lacks-spacing .ensures) (c .before .before .if4 .left) (c .before .lacks-spacing2 .result) (c .before .lacks-spacing2 .ensures) (c .if5 .taken)
 
 returns-6 : tie.Need-returns-6
 returns-6 c =
-    let a = c .before .before .before .before .before .before .before .before .before .before .before .before .before .before .args in
-    let n = c .before .before .before .before .before .before .before .before .before .before .before .validate-structure-name in
-    let h = n .ensures ∙ ap isName (c .before .before .before .before .before .before .before .before .before .before .before .before .string-at .ensures) in
-    all-pass (a .b .now) (a .s) (c .before .before .before .before .before .before .before .before .before .before .before .before .before .before .pre .name-in) (n .result) h (not-false _ (c .before .before .before .before .before .before .before .before .before .before .if1 .left)) (c .before .before .before .before .before .before .before .before .within .result) (c .before .before .before .before .before .before .before .before .within .ensures) (not-false _ (c .before .before .before .before .before .before .before .if2 .left)) (c .before .before .before .before .before .within2 .result) (c .before .before .before .before .before .within2 .ensures) (not-false _ (c .before .before .before .before .if3 .left)) (c .before .before .before .lacks-spacing .result) (c .before .before .before .lacks-spacing .ensures) (c .before .before .if4 .left) (c .before .lacks-spacing2 .result) (c .before .lacks-spacing2 .ensures) (c .if5 .left)
+    let at-lacks-spacing = c .before .before .before in
+    let at-if3 = at-lacks-spacing .before in
+    let at-within2 = at-if3 .before in
+    let at-if2 = at-within2 .before .before in
+    let at-within = at-if2 .before in
+    let at-if1 = at-within .before .before in
+    let at-validate-structure-name = at-if1 .before in
+    let at-string-at = at-validate-structure-name .before in
+    let start = at-string-at .before .before in
+    let a = start .args in
+    let n = at-validate-structure-name .validate-structure-name in
+    let h = n .ensures ∙ ap isName (at-string-at .string-at .ensures) in
+    all-pass (a .b .now) (a .s) (start .pre .name-in) (n .result) h (not-false _ (at-if1 .if1 .left)) (at-within .within .result) (at-within .within .ensures) (not-false _ (at-if2 .if2 .left)) (at-within2 .within2 .result) (at-within2 .within2 .ensures) (not-false _ (at-if3 .if3 .left)) (at-lacks-spacing .lacks-spacing .result) (at-lacks-spacing .lacks-spacing .ensures) (c .before .before .if4 .left) (c .before .lacks-spacing2 .result) (c .before .lacks-spacing2 .ensures) (c .if5 .left)
 
 pub check-reference-spec : {M : Type 1} → statement M
 check-reference-spec =

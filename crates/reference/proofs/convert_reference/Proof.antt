@@ -1,6 +1,6 @@
 -- `reference::convert_reference` meets its contract: the transform, and then the conversions. Assumes nothing.
 use mathlib.Core.Path.{sym, ap, _∙_}
-use Rattle.transform.specs.Strans.{transformOf}
+use Rattle.transform.specs.code.Strans.{transformOf}
 use Rattle.reference.proofs.ValueLaws.{transform-stops, transform-goes-on}
 use borrow.Author.Needs.{needs}
 use Rattle.reference.proofs.convert_reference.Statement.{statement}

@@ -1,9 +1,9 @@
 -- `reference::measure_reference` meets its contract: the length is that of the records. Assumes nothing.
 use mathlib.Core.Path.{sym, ap, _∙_, subst}
-use Rattle.transform.specs.Strans.{saidOf}
-use Rattle.array.specs.Corners.{stepsOf}
+use Rattle.transform.specs.code.Strans.{saidOf}
+use Rattle.array.specs.code.Corners.{stepsOf}
 use Rattle.writing.proofs.ReadyLaws.{measure-stopped, measure-ready}
-use Rattle.reference.specs.Reference.{referenceBytes, readyOf, Fine, srefOf, arefOf}
+use Rattle.reference.specs.code.Reference.{referenceBytes, readyOf, Fine, srefOf, arefOf}
 use Rattle.reference.proofs.RecordLaws.{length-sref, length-aref, length-sum}
 use borrow.Author.Needs.{needs}
 use Rattle.reference.proofs.measure_reference.Statement.{statement}

@@ -6,9 +6,9 @@ use mir.Syntax.{w32}
 use mir.Val.{SFits}
 use mir.ValLaws.{toZ-ofZ}
 use Rattle.cell.specs.Write.{writeReference}
-use Rattle.forms.specs.Forms.{referenceAt}
+use Rattle.forms.specs.code.Forms.{referenceAt}
 use Rattle.writing.proofs.ReadyLaws.{write-ready}
-use Rattle.reference.specs.Reference.{referenceBytes, readyOf, Fine, Values, srefOf, arefOf}
+use Rattle.reference.specs.code.Reference.{referenceBytes, readyOf, Fine, Values, srefOf, arefOf}
 use Rattle.reference.proofs.ValueLaws.{reference-bounded, reference-past, reference-never}
 use Rattle.reference.proofs.RecordLaws.{same-sref}
 use borrow.Author.Needs.{needs}
@@ -60,13 +60,17 @@ same-length c = c .before .before .put-sref-at .ensures .long
 
 returns-2 : tie.Need-returns-2
 returns-2 c =
-    let a = c .before .before .before .before .before .before .before .before .before .before .args in
-    let r = c .before .before .before .before .before .before .before .convert-reference .result in
-    let g = c .before .before .before .before .before .strans .given in
-    let k = c .before .before .before .before .known-told .given in
+    let at-known-told = c .before .before .before .before in
+    let at-strans = at-known-told .before in
+    let at-convert-reference = at-strans .before .before in
+    let start = at-convert-reference .before .before .before in
+    let a = start .args in
+    let r = at-convert-reference .convert-reference .result in
+    let g = at-strans .strans .given in
+    let k = at-known-told .known-told .given in
     let f : SFits w32 (g .0 .1 .0) = search needs in
     let f2 : SFits w32 (g .0 .1 .1 .0) = search needs in
-    write-ready (a .entry) _ (readyOf (a .b .now) (a .reference) r) (values (c .before .before .before .before .before .before .before) .is) referenceBytes (srefOf (a .b .now) (a .reference) (g .0 .0) (g .0 .1 .0) (g .0 .1 .1 .0)) (g .0 .1 .1 .1 .0) _ (ap (readyOf (a .b .now) (a .reference)) (g .1))
+    write-ready (a .entry) _ (readyOf (a .b .now) (a .reference) r) (values (at-convert-reference) .is) referenceBytes (srefOf (a .b .now) (a .reference) (g .0 .0) (g .0 .1 .0) (g .0 .1 .1 .0)) (g .0 .1 .1 .1 .0) _ (ap (readyOf (a .b .now) (a .reference)) (g .1))
     (same-sref (a .b .now) (a .reference) (g .0 .0) (toZ-ofZ w32 (g .0 .1 .0) f) (toZ-ofZ w32 (g .0 .1 .1 .0) f2) (c .before .before .put-sref-at .ensures) .wrote)
 
 same-length-2 : tie.Need-same-length-2
@@ -74,10 +78,13 @@ same-length-2 c = c .before .before .put-aref-at .ensures .long
 
 returns-3 : tie.Need-returns-3
 returns-3 c =
-    let a = c .before .before .before .before .before .before .before .before .before .before .args in
-    let r = c .before .before .before .before .before .before .before .convert-reference .result in
-    let g = c .before .before .before .before .before .strans2 .given in
-    write-ready (a .entry) _ (readyOf (a .b .now) (a .reference) r) (values (c .before .before .before .before .before .before .before) .is) referenceBytes (arefOf (a .b .now) (a .reference) (g .0 .0) (g .0 .1 .0)) (g .0 .1 .1 .0) _ (ap (readyOf (a .b .now) (a .reference)) (g .1)) (c .before .before .put-aref-at .ensures .wrote)
+    let at-strans2 = c .before .before .before .before .before in
+    let at-convert-reference = at-strans2 .before .before in
+    let start = at-convert-reference .before .before .before in
+    let a = start .args in
+    let r = at-convert-reference .convert-reference .result in
+    let g = at-strans2 .strans2 .given in
+    write-ready (a .entry) _ (readyOf (a .b .now) (a .reference) r) (values (at-convert-reference) .is) referenceBytes (arefOf (a .b .now) (a .reference) (g .0 .0) (g .0 .1 .0)) (g .0 .1 .1 .0) _ (ap (readyOf (a .b .now) (a .reference)) (g .1)) (c .before .before .put-aref-at .ensures .wrote)
 
 pub put-reference-spec : {M : Type 1} → statement M
 put-reference-spec =

@@ -1,12 +1,12 @@
 -- `shape::measure_node` meets its contract. Assumes nothing.
 use mathlib.Core.Path.{sym, _∙_}
-use Rattle.conversion.specs.Fold.{notedAll}
+use Rattle.conversion.specs.code.Fold.{notedAll}
 use Rattle.stream.specs.Structure as D
-use Rattle.forms.specs.Forms.{shapeAt}
+use Rattle.forms.specs.code.Forms.{shapeAt}
 use Rattle.stream.specs.Record.{NODE, NODETYPE}
 use Rattle.cell.specs.Write.{writeShape, writeNode}
 use Rattle.points.proofs.EndsLaws.{measured-met, measured-refused, same-entry, measure-stopped, measure-made}
-use Rattle.shape.specs.Shape.{nodeBytes}
+use Rattle.shape.specs.code.Shape.{nodeBytes}
 use Rattle.shape.proofs.ShapeLaws.{shape-length}
 use borrow.Author.Needs.{needs}
 use Rattle.shape.proofs.measure_node.Statement.{statement}

@@ -1,15 +1,15 @@
 -- `shape::measure_polygon` meets its contract: the shape, then its ends. Assumes nothing.
 use mathlib.Core.Path.{_≡_, sym, _∙_}
-use Rattle.conversion.specs.Fold.{notedAll}
+use Rattle.conversion.specs.code.Fold.{notedAll}
 use Rattle.stream.specs.Structure as D
-use Rattle.forms.specs.Forms.{shapeAt}
+use Rattle.forms.specs.code.Forms.{shapeAt}
 use mir.Syntax.{w32}
 use mir.Val.{SFits}
 use Rattle.refusal.specs.declared.Refusal.the-variants as R
 use Rattle.stream.specs.Record.{BOUNDARY, DATATYPE}
 use Rattle.cell.specs.Write.{closed, writeShape, writePolygon}
 use Rattle.points.proofs.EndsLaws.{Met, measured-met, measured-refused, same-entry, measure-stopped, measure-made}
-use Rattle.shape.specs.Shape.{polygonBytes}
+use Rattle.shape.specs.code.Shape.{polygonBytes}
 use Rattle.shape.proofs.ShapeLaws.{shape-length}
 use Rattle.shape.proofs.PolygonLaws.{found-closed, polygon-refused, polygon-open, polygon-closed}
 use borrow.Author.Needs.{needs}
@@ -56,8 +56,10 @@ add-t16 c = search needs
 
 returns : tie.Need-returns
 returns c =
-    let a = c .before .before .before .before .before .before .before .before .args in
-    let g = c .before .before .before .before .x0 .given in
+    let at-x0 = c .before .before .before .before in
+    let start = at-x0 .before .before .before .before in
+    let a = start .args in
+    let g = at-x0 .x0 .given in
     let v = g .0 in
     let e = v .1 .1 .1 .1 .0 in
     let k = met (c .before .before) in

@@ -2,7 +2,7 @@
 use mathlib.Core.Path.{sym, ap, _∙_}
 use native.Mathlib.Omega.{arith}
 use Rattle.points.specs.declared.Walked.the-variants as W
-use Rattle.shape.specs.Shape.{shapeEnds, checkOf}
+use Rattle.shape.specs.code.Shape.{shapeEnds, checkOf}
 use Rattle.shape.proofs.CheckLaws.{passed-within, shape-stops, shape-goes-on}
 use borrow.Author.Needs.{needs}
 use Rattle.shape.proofs.measure_shape.Statement.{statement}

@@ -1,9 +1,9 @@
 -- `shape::put_polygon` meets its contract: what is left after its checks is its points. Assumes nothing.
 use mathlib.Core.Path.{sym, subst}
 use native.Mathlib.Omega.{arith}
-use Rattle.writing.specs.Steps.{Succeeds}
+use Rattle.writing.specs.code.Steps.{Succeeds}
 use Rattle.writing.proofs.StepLaws.{same-step}
-use Rattle.forms.specs.Forms.{shapeAt}
+use Rattle.forms.specs.code.Forms.{shapeAt}
 use Rattle.points.proofs.WalkLaws.{length-from}
 use Rattle.shape.proofs.PolygonLaws.{polygon-is, polygon-counted}
 use borrow.Author.Needs.{needs}

@@ -2,7 +2,7 @@
 use mathlib.Core.Path.{refl}
 use Prim.Native.Nat.{_+_, _*_}
 use native.Mathlib.Omega.{arith}
-use Rattle.forms.specs.Forms.{shapeAt}
+use Rattle.forms.specs.code.Forms.{shapeAt}
 use Rattle.shape.proofs.ShapeLaws.{shape-put, points-succeed}
 use borrow.Author.Needs.{needs}
 use Rattle.shape.proofs.put_shape.Statement.{statement}
@@ -23,9 +23,11 @@ put-shape-head-requires c κs = search needs
 put-points-requires : tie.Need-put-points-requires
 unfolding shapeAt
 put-points-requires c κs =
-    let a = c .before .before .before .before .before .before .before .before .args in
-    let p = c .before .before .before .before .before .before .before .before .pre in
-    let h = c .before .before .before .put-shape-head .ensures in
+    let at-put-shape-head = c .before .before .before in
+    let start = at-put-shape-head .before .before .before .before .before in
+    let a = start .args in
+    let p = start .pre in
+    let h = at-put-shape-head .put-shape-head .ensures in
     let i = h .end in
     let j = h .long in
     (p .0 .points-in, (p .1 .0, (points-succeed (a .policy) (a .d) (shapeAt (a .b .now) (a .places)) (p .1 .1 .0), (omega arith, p .1 .1 .1 .1))))
@@ -35,8 +37,10 @@ same-length c = search needs
 
 returns : tie.Need-returns
 returns c =
-    let a = c .before .before .before .before .before .before .before .before .before .before .before .args in
-    shape-put (a .policy) (a .d) (a .b .now) (a .places) (a .entry) (a .code) (a .type-code) (4 + 8 * a .places .count) refl (c .before .before .before .before .before .before .put-shape-head .ensures) (c .before .before .put-points .ensures)
+    let at-put-shape-head = c .before .before .before .before .before .before in
+    let start = at-put-shape-head .before .before .before .before .before in
+    let a = start .args in
+    shape-put (a .policy) (a .d) (a .b .now) (a .places) (a .entry) (a .code) (a .type-code) (4 + 8 * a .places .count) refl (at-put-shape-head .put-shape-head .ensures) (c .before .before .put-points .ensures)
 
 pub put-shape-spec : {M : Type 1} → statement M
 put-shape-spec =

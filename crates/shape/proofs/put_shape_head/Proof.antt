@@ -21,7 +21,10 @@ same-length c = search needs
 
 returns : tie.Need-returns
 returns c =
-    then-placed (c .before .before .before .before .before .before .before .before .before .before .before .before .before .before .put-empty-at .ensures) (then-placed (c .before .before .before .before .before .before .before .before .before .before .put-word-at .ensures) (then-placed (c .before .before .before .before .before .before .put-word-at2 .ensures) (c .before .before .put-head-at .ensures)))
+    let at-put-word-at2 = c .before .before .before .before .before .before in
+    let at-put-word-at = at-put-word-at2 .before .before .before .before in
+    let at-put-empty-at = at-put-word-at .before .before .before .before in
+    then-placed (at-put-empty-at .put-empty-at .ensures) (then-placed (at-put-word-at .put-word-at .ensures) (then-placed (at-put-word-at2 .put-word-at2 .ensures) (c .before .before .put-head-at .ensures)))
 
 pub put-shape-head-spec : {M : Type 1} → statement M
 put-shape-head-spec =

@@ -63,7 +63,10 @@ slice-aggregate-print-entries : tie.Need-slice-aggregate-print-entries
 slice-aggregate-print-entries c = search needs
 
 print-entries-requires : tie.Need-print-entries-requires
-print-entries-requires c κs = let h = writes-room (c .before .before .before .before .before .before .before .before .before .write-cell .ensures) (c .before .before .before .before .before .length .given .1) in omega arith
+print-entries-requires c κs =
+    let at-length = c .before .before .before .before .before in
+    let at-write-cell = at-length .before .before .before .before in
+    let h = writes-room (at-write-cell .write-cell .ensures) (at-length .length .given .1) in omega arith
 
 returns : tie.Need-returns
 returns c = search needs

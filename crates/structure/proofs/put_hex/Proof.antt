@@ -51,7 +51,11 @@ loop-less : tie.Need-loop-less Inv-loop μ-loop
 loop-less c = search needs
 
 loop-again : tie.Need-loop-again Inv-loop μ-loop
-loop-again c = let l = c .before .before .before .before .before .loop in (omega arith, put-turn _ _ (l .text) (l .i) (c .before .before .digit .result) (c .digit2 .result) (l .inv .1) (c .before .before .before .before .loop-test .taken) (c .before .before .before .before .before .before .before .before .pre) (c .before .before .digit .ensures) (c .digit2 .ensures))
+loop-again c =
+    let at-loop-test = c .before .before .before .before in
+    let at-loop = at-loop-test .before in
+    let start = at-loop .before .before .before in
+    let l = at-loop .loop in (omega arith, put-turn _ _ (l .text) (l .i) (c .before .before .digit .result) (c .digit2 .result) (l .inv .1) (at-loop-test .loop-test .taken) (start .pre) (c .before .before .digit .ensures) (c .digit2 .ensures))
 
 mul-result : tie.Need-mul-result Inv-loop μ-loop
 mul-result c = search needs

@@ -4,10 +4,10 @@ use lib.IntN.{ℤ}
 use mir.Syntax.{w32}
 use mir.Val.{SFits}
 use mir.ValLaws.{toZ-ofZ}
-use Rattle.forms.specs.Forms.{textAt}
-use Rattle.transform.specs.Strans.{saidOf, transformOf}
-use Rattle.writing.specs.Ready.{stopped, ready}
-use Rattle.text.specs.Text.{SaidText, textOf}
+use Rattle.forms.specs.code.Forms.{textAt}
+use Rattle.transform.specs.code.Strans.{saidOf, transformOf}
+use Rattle.writing.specs.code.Ready.{stopped, ready}
+use Rattle.text.specs.code.Text.{SaidText, textOf}
 use Rattle.text.proofs.TextLaws.{said-of, text-transform, text-origin, text-through}
 use borrow.Author.Needs.{needs}
 use Rattle.text.proofs.convert_text.Statement.{statement}
@@ -41,18 +41,26 @@ returns c =
 returns-2 : tie.Need-returns-2
 unfolding textAt
 returns-2 c =
-    let a = c .before .before .before .before .before .before .before .before .before .args in
-    let t = c .before .before .before .before .before .strans .given in
-    let p = c .before .before .before .convert-point in
+    let at-convert-point = c .before .before .before in
+    let at-strans = at-convert-point .before .before in
+    let at-write-transformation = at-strans .before .before in
+    let start = at-write-transformation .before .before in
+    let a = start .args in
+    let t = at-strans .strans .given in
+    let p = at-convert-point .convert-point in
     let g = c .before .refusal2 .given in
-    text-origin stopped (a .entry) ready (a .policy) (a .d) (textAt (a .b .now) (a .text)) (saidOf (t .0 .0)) (ap transformOf (sym (t .1)) ∙ c .before .before .before .before .before .before .before .write-transformation .ensures) (p .result) (p .ensures) (g .0 .0) (g .1)
+    text-origin stopped (a .entry) ready (a .policy) (a .d) (textAt (a .b .now) (a .text)) (saidOf (t .0 .0)) (ap transformOf (sym (t .1)) ∙ at-write-transformation .write-transformation .ensures) (p .result) (p .ensures) (g .0 .0) (g .1)
 
 returns-3 : tie.Need-returns-3
 unfolding textAt
 returns-3 c =
-    let a = c .before .before .before .before .before .before .before .before .before .args in
-    let t = c .before .before .before .before .before .strans .given in
-    let p = c .before .before .before .convert-point in
+    let at-convert-point = c .before .before .before in
+    let at-strans = at-convert-point .before .before in
+    let at-write-transformation = at-strans .before .before in
+    let start = at-write-transformation .before .before in
+    let a = start .args in
+    let t = at-strans .strans .given in
+    let p = at-convert-point .convert-point in
     let g = c .before .x .given in
     let x = g .0 .0 in
     let y = g .0 .1 .0 in
@@ -61,7 +69,7 @@ returns-3 c =
     let h : SFits w32 y = search needs in
     ap₂ (λ (z w : ℤ). ready (textOf (a .b .now) (a .text) (t .0 .0) z w) e) (toZ-ofZ w32 x f) (toZ-ofZ w32 y h)
     ∙ ap (λ (w : SaidText). ready w e) (sym (said-of (a .b .now) (a .text) (t .0 .0) x y))
-    ∙ text-through stopped (a .entry) ready (a .policy) (a .d) (textAt (a .b .now) (a .text)) (saidOf (t .0 .0)) (ap transformOf (sym (t .1)) ∙ c .before .before .before .before .before .before .before .write-transformation .ensures) (p .result) (p .ensures) x y e (g .1)
+    ∙ text-through stopped (a .entry) ready (a .policy) (a .d) (textAt (a .b .now) (a .text)) (saidOf (t .0 .0)) (ap transformOf (sym (t .1)) ∙ at-write-transformation .write-transformation .ensures) (p .result) (p .ensures) x y e (g .1)
 
 pub convert-text-spec : {M : Type 1} → statement M
 convert-text-spec =

@@ -6,7 +6,7 @@ use Rattle.big_endian.specs.Big.{numberAt}
 use Rattle.cell.specs.Limits.{maxStringLength}
 use Rattle.writing.proofs.ReadyLaws.{measure-stopped, measure-ready}
 use Rattle.transform.proofs.StransLaws.{strans-short}
-use Rattle.text.specs.Text.{sizeOf, textBytes, textOf, readyOf}
+use Rattle.text.specs.code.Text.{sizeOf, textBytes, textOf, readyOf}
 use Rattle.text.proofs.TextLaws.{ready-short, length-text-of}
 use borrow.Author.Needs.{needs}
 use Rattle.text.proofs.measure_text.Statement.{statement}

@@ -5,7 +5,7 @@ use lib.ListN.{length}
 use mir.Syntax.{w32}
 use mir.ValLaws.{toZ-ofZ}
 use Rattle.big_endian.specs.Big.{numberAt}
-use Rattle.forms.specs.Forms.{textAt}
+use Rattle.forms.specs.code.Forms.{textAt}
 use Rattle.text.proofs.TextLaws.{text-placed, string-long}
 use borrow.Author.Needs.{needs}
 use Rattle.text.proofs.put_records_at.Statement.{statement}
@@ -37,25 +37,34 @@ put-xy-at-requires : tie.Need-put-xy-at-requires
 put-xy-at-requires c κs = search needs
 
 string-at-requires : tie.Need-string-at-requires
-string-at-requires c κs = c .before .before .before .before .before .before .before .before .before .before .before .before .before .before .before .before .before .before .before .before .before .before .before .before .before .before .before .before .pre .0
+string-at-requires c κs =
+    let start = c .before .before .before .before .before .before .before .before .before .before .before .before .before .before .before .before .before .before .before .before .before .before .before .before .before .before .before .before in
+    start .pre .0
 
 put-string-at-requires : tie.Need-put-string-at-requires
 put-string-at-requires c κs =
+    let at-put-xy-at = c .before .before .before .before in
+    let at-put-strans-at = at-put-xy-at .before .before .before .before in
+    let at-put-word-at3 = at-put-strans-at .before .before .before .before in
+    let at-put-word-at2 = at-put-word-at3 .before .before .before .before in
+    let at-put-word-at = at-put-word-at2 .before .before .before .before in
+    let at-put-empty-at = at-put-word-at .before .before .before .before in
+    let start = at-put-empty-at .before .before .before .before .before in
     let n = long c in
-    let p = c .before .before .before .before .before .before .before .before .before .before .before .before .before .before .before .before .before .before .before .before .before .before .before .before .before .before .before .before .before .pre .1 .0 in
-    let q = c .before .before .before .before .before .before .before .before .before .before .before .before .before .before .before .before .before .before .before .before .before .before .before .before .before .before .before .before .before .pre .1 .1 in
-    let e1 = c .before .before .before .before .before .before .before .before .before .before .before .before .before .before .before .before .before .before .before .before .before .before .before .before .put-empty-at .ensures .end in
-    let l1 = c .before .before .before .before .before .before .before .before .before .before .before .before .before .before .before .before .before .before .before .before .before .before .before .before .put-empty-at .ensures .long in
-    let e2 = c .before .before .before .before .before .before .before .before .before .before .before .before .before .before .before .before .before .before .before .before .put-word-at .ensures .end in
-    let l2 = c .before .before .before .before .before .before .before .before .before .before .before .before .before .before .before .before .before .before .before .before .put-word-at .ensures .long in
-    let e3 = c .before .before .before .before .before .before .before .before .before .before .before .before .before .before .before .before .put-word-at2 .ensures .end in
-    let l3 = c .before .before .before .before .before .before .before .before .before .before .before .before .before .before .before .before .put-word-at2 .ensures .long in
-    let e4 = c .before .before .before .before .before .before .before .before .before .before .before .before .put-word-at3 .ensures .end in
-    let l4 = c .before .before .before .before .before .before .before .before .before .before .before .before .put-word-at3 .ensures .long in
-    let e5 = c .before .before .before .before .before .before .before .before .put-strans-at .ensures .end in
-    let l5 = c .before .before .before .before .before .before .before .before .put-strans-at .ensures .long in
-    let e6 = c .before .before .before .before .put-xy-at .ensures .end in
-    let l6 = c .before .before .before .before .put-xy-at .ensures .long in
+    let p = start .pre .1 .0 in
+    let q = start .pre .1 .1 in
+    let e1 = at-put-empty-at .put-empty-at .ensures .end in
+    let l1 = at-put-empty-at .put-empty-at .ensures .long in
+    let e2 = at-put-word-at .put-word-at .ensures .end in
+    let l2 = at-put-word-at .put-word-at .ensures .long in
+    let e3 = at-put-word-at2 .put-word-at2 .ensures .end in
+    let l3 = at-put-word-at2 .put-word-at2 .ensures .long in
+    let e4 = at-put-word-at3 .put-word-at3 .ensures .end in
+    let l4 = at-put-word-at3 .put-word-at3 .ensures .long in
+    let e5 = at-put-strans-at .put-strans-at .ensures .end in
+    let l5 = at-put-strans-at .put-strans-at .ensures .long in
+    let e6 = at-put-xy-at .put-xy-at .ensures .end in
+    let l6 = at-put-xy-at .put-xy-at .ensures .long in
     (omega arith, omega arith)
 
 same-length : tie.Need-same-length
@@ -63,12 +72,21 @@ same-length c = search needs
 
 returns : tie.Need-returns
 returns c =
-    let s = c .before .before .before .before .before .before .before .before .before .before .before .before .before .before .before .before .before .before .before .before .before .before .before .before .before .before .before .before .before .before .before .before in
+    let at-string-at = c .before .before .before in
+    let at-put-xy-at = at-string-at .before .before .before .before in
+    let at-put-strans-at = at-put-xy-at .before .before .before .before in
+    let at-put-word-at3 = at-put-strans-at .before .before .before .before in
+    let at-put-word-at2 = at-put-word-at3 .before .before .before .before in
+    let at-put-word-at = at-put-word-at2 .before .before .before .before in
+    let at-put-empty-at = at-put-word-at .before .before .before .before in
+    let at-presentation = at-put-empty-at .before .before in
+    let earlier = at-presentation .before .before .before in
+    let s = earlier in
     let a = s .args in
-    text-placed (a .b .now) (a .text) (a .strans) (a .x) (a .y) _ _ (c .before .before .before .before .before .before .before .before .before .before .before .before .before .before .before .before .before .before .before .before .before .before .before .before .before .before .before .before .before .presentation .result) _ (c .before .before .before .string-at .result .now)
-    (toZ-ofZ w32 (a .x) (s .fits .x)) (toZ-ofZ w32 (a .y) (s .fits .y)) (c .before .before .before .before .before .before .before .before .before .before .before .before .before .before .before .before .before .before .before .before .before .before .before .before .before .before .before .before .before .presentation .ensures) (c .before .before .before .string-at .ensures) (long (c .before .before .before))
-    (c .before .before .before .before .before .before .before .before .before .before .before .before .before .before .before .before .before .before .before .before .before .before .before .before .before .before .before .put-empty-at .ensures) (c .before .before .before .before .before .before .before .before .before .before .before .before .before .before .before .before .before .before .before .before .before .before .before .put-word-at .ensures) (c .before .before .before .before .before .before .before .before .before .before .before .before .before .before .before .before .before .before .before .put-word-at2 .ensures) (c .before .before .before .before .before .before .before .before .before .before .before .before .before .before .before .put-word-at3 .ensures) (c .before .before .before .before .before .before .before .before .before .before .before .put-strans-at .ensures)
-    (c .before .before .before .before .before .before .before .put-xy-at .ensures) (c .before .before .put-string-at .ensures)
+    text-placed (a .b .now) (a .text) (a .strans) (a .x) (a .y) _ _ (at-presentation .presentation .result) _ (at-string-at .string-at .result .now)
+    (toZ-ofZ w32 (a .x) (s .fits .x)) (toZ-ofZ w32 (a .y) (s .fits .y)) (at-presentation .presentation .ensures) (at-string-at .string-at .ensures) (long (at-string-at))
+    (at-put-empty-at .put-empty-at .ensures) (at-put-word-at .put-word-at .ensures) (at-put-word-at2 .put-word-at2 .ensures) (at-put-word-at3 .put-word-at3 .ensures) (at-put-strans-at .put-strans-at .ensures)
+    (at-put-xy-at .put-xy-at .ensures) (c .before .before .put-string-at .ensures)
 
 pub put-records-at-spec : {M : Type 1} → statement M
 put-records-at-spec =

@@ -21,22 +21,31 @@ put-word-at-requires c κs =
 
 put-opt-real-at-requires : tie.Need-put-opt-real-at-requires
 put-opt-real-at-requires c κs =
-    let a = c .before .before .before .before .before .before .before .before .before .args .s in
-    let l = length-there (a .reflection) (a .scaled) (a .turned) (sym (c .before .before .before .before .before .before .before .is-there .ensures) ∙ c .before .before .before .before .before .before .if1 .taken) in
-    let p = c .before .before .before .before .before .before .before .before .before .pre in
-    let e = c .before .before .before .put-word-at .ensures .end in
-    let k = c .before .before .before .put-word-at .ensures .long in
+    let at-put-word-at = c .before .before .before in
+    let at-if1 = at-put-word-at .before .before .before in
+    let at-is-there = at-if1 .before in
+    let start = at-is-there .before .before in
+    let a = start .args .s in
+    let l = length-there (a .reflection) (a .scaled) (a .turned) (sym (at-is-there .is-there .ensures) ∙ at-if1 .if1 .taken) in
+    let p = start .pre in
+    let e = at-put-word-at .put-word-at .ensures .end in
+    let k = at-put-word-at .put-word-at .ensures .long in
     omega arith
 
 put-opt-real-at-requires-2 : tie.Need-put-opt-real-at-requires-2
 put-opt-real-at-requires-2 c κs =
-    let a = c .before .before .before .before .before .before .before .before .before .before .before .before .before .args .s in
-    let l = length-there (a .reflection) (a .scaled) (a .turned) (sym (c .before .before .before .before .before .before .before .before .before .before .before .is-there .ensures) ∙ c .before .before .before .before .before .before .before .before .before .before .if1 .taken) in
-    let p = c .before .before .before .before .before .before .before .before .before .before .before .before .before .pre in
-    let e = c .before .before .before .before .before .before .before .put-word-at .ensures .end in
-    let k = c .before .before .before .before .before .before .before .put-word-at .ensures .long in
-    let f = c .before .before .before .put-opt-real-at .ensures .end in
-    let m = c .before .before .before .put-opt-real-at .ensures .long in
+    let at-put-opt-real-at = c .before .before .before in
+    let at-put-word-at = at-put-opt-real-at .before .before .before .before in
+    let at-if1 = at-put-word-at .before .before .before in
+    let at-is-there = at-if1 .before in
+    let start = at-is-there .before .before in
+    let a = start .args .s in
+    let l = length-there (a .reflection) (a .scaled) (a .turned) (sym (at-is-there .is-there .ensures) ∙ at-if1 .if1 .taken) in
+    let p = start .pre in
+    let e = at-put-word-at .put-word-at .ensures .end in
+    let k = at-put-word-at .put-word-at .ensures .long in
+    let f = at-put-opt-real-at .put-opt-real-at .ensures .end in
+    let m = at-put-opt-real-at .put-opt-real-at .ensures .long in
     omega arith
 
 same-length : tie.Need-same-length
@@ -44,9 +53,15 @@ same-length c = search needs
 
 returns : tie.Need-returns
 returns c =
-    let s = c .before .before .before .before .before .before .before .before .before .before .before .before .before .before .before .before in
-    strans-placed (s .args .s) (c .before .before .before .before .before .before .before .before .before .before .before .strans-bits .result) (sym (c .before .before .before .before .before .before .before .before .before .before .before .before .before .before .is-there .ensures) ∙ c .before .before .before .before .before .before .before .before .before .before .before .before .before .if1 .taken) (c .before .before .before .before .before .before .before .before .before .before .before .strans-bits .ensures)
-    (c .before .before .before .before .before .before .before .before .before .before .put-word-at .ensures) (c .before .before .before .before .before .before .put-opt-real-at .ensures) (c .before .before .put-opt-real-at2 .ensures)
+    let at-put-opt-real-at = c .before .before .before .before .before .before in
+    let at-put-word-at = at-put-opt-real-at .before .before .before .before in
+    let at-strans-bits = at-put-word-at .before in
+    let at-if1 = at-strans-bits .before .before in
+    let at-is-there = at-if1 .before in
+    let earlier = at-is-there .before .before in
+    let s = earlier in
+    strans-placed (s .args .s) (at-strans-bits .strans-bits .result) (sym (at-is-there .is-there .ensures) ∙ at-if1 .if1 .taken) (at-strans-bits .strans-bits .ensures)
+    (at-put-word-at .put-word-at .ensures) (at-put-opt-real-at .put-opt-real-at .ensures) (c .before .before .put-opt-real-at2 .ensures)
 
 returns-2 : tie.Need-returns-2
 returns-2 c =

@@ -2,9 +2,9 @@
 use mathlib.Core.Path.{sym, ap, _∙_}
 use mathlib.Core.Option.{none, some}
 use Rattle.big_endian.specs.Big.{bytesOf}
-use Rattle.records.specs.Bytes.{optionOf}
+use Rattle.records.specs.code.Bytes.{optionOf}
 use Rattle.transform.specs.declared.Real.{Real}
-use Rattle.transform.specs.Strans.{realOf, withAngle}
+use Rattle.transform.specs.code.Strans.{realOf, withAngle}
 use Rattle.transform.proofs.TransformLaws.{angle-refused, angle-made}
 use borrow.Author.Needs.{needs}
 use Rattle.transform.proofs.with_angle.Statement.{statement}

@@ -2,7 +2,7 @@
 use mathlib.Core.Path.{sym, ap, _∙_}
 use mathlib.Core.Option.{none, some}
 use Rattle.big_endian.specs.Big.{bytesOf}
-use Rattle.transform.specs.Strans.{realOf, withAngle}
+use Rattle.transform.specs.code.Strans.{realOf, withAngle}
 use Rattle.transform.proofs.TransformLaws.{transform-refused, transform-on}
 use borrow.Author.Needs.{needs}
 use Rattle.transform.proofs.write_transformation.Statement.{statement}

@@ -1,7 +1,7 @@
 -- `validation::check_call` meets its contract: 1 and 2, then 3. Assumes nothing.
 use mathlib.Core.Path.{sym, ap, _∙_}
 use borrow.Author.Needs.{needs}
-use Rattle.conversion.specs.Answer.{callerOf}
+use Rattle.conversion.specs.code.Answer.{callerOf}
 use Rattle.cell.proofs.CallLaws.{call-refused, call-long, call-with}
 use Rattle.validation.proofs.check_call.Statement.{statement}
 use Rattle.validation.proofs.check_call.Tie as tie

@@ -40,11 +40,25 @@ returns-4 c = rw (sym (c .before .before .before .before .before .before .before
 
 returns-5 : tie.Need-returns-5
 unfolding isDate
-returns-5 c = rw (sym (c .before .before .before .before .before .before .before .before .within .ensures) ∙ was-true _ (c .before .before .before .before .before .before .before .if1 .left), sym (c .before .before .before .before .before .before .within2 .ensures) ∙ was-true _ (c .before .before .before .before .before .if2 .left), ← c .before .before .before .before .days-in .ensures, sym (c .before .before .before .within3 .ensures) ∙ was-true _ (c .before .before .if3 .left), le-leb _ _ (c .before .if4 .left), lt-leb _ _ (c .if5 .taken))
+returns-5 c =
+    let at-within3 = c .before .before .before in
+    let at-days-in = at-within3 .before in
+    let at-if2 = at-days-in .before in
+    let at-within2 = at-if2 .before in
+    let at-if1 = at-within2 .before in
+    let at-within = at-if1 .before in
+    rw (sym (at-within .within .ensures) ∙ was-true _ (at-if1 .if1 .left), sym (at-within2 .within2 .ensures) ∙ was-true _ (at-if2 .if2 .left), ← at-days-in .days-in .ensures, sym (at-within3 .within3 .ensures) ∙ was-true _ (c .before .before .if3 .left), le-leb _ _ (c .before .if4 .left), lt-leb _ _ (c .if5 .taken))
 
 returns-6 : tie.Need-returns-6
 unfolding isDate
-returns-6 c = rw (sym (c .before .before .before .before .before .before .before .before .within .ensures) ∙ was-true _ (c .before .before .before .before .before .before .before .if1 .left), sym (c .before .before .before .before .before .before .within2 .ensures) ∙ was-true _ (c .before .before .before .before .before .if2 .left), ← c .before .before .before .before .days-in .ensures, sym (c .before .before .before .within3 .ensures) ∙ was-true _ (c .before .before .if3 .left), le-leb _ _ (c .before .if4 .left), le-leb _ _ (c .if5 .left))
+returns-6 c =
+    let at-within3 = c .before .before .before in
+    let at-days-in = at-within3 .before in
+    let at-if2 = at-days-in .before in
+    let at-within2 = at-if2 .before in
+    let at-if1 = at-within2 .before in
+    let at-within = at-if1 .before in
+    rw (sym (at-within .within .ensures) ∙ was-true _ (at-if1 .if1 .left), sym (at-within2 .within2 .ensures) ∙ was-true _ (at-if2 .if2 .left), ← at-days-in .days-in .ensures, sym (at-within3 .within3 .ensures) ∙ was-true _ (c .before .before .if3 .left), le-leb _ _ (c .before .if4 .left), le-leb _ _ (c .if5 .left))
 
 pub is-datetime-spec : {M : Type 1} → statement M
 is-datetime-spec =

@@ -49,7 +49,13 @@ is-datetime-requires : tie.Need-is-datetime-requires
 is-datetime-requires c κs = search needs
 
 returns : tie.Need-returns
-returns c = let s = c .before .before .before .before .before .before .before .before .args in c .is-datetime .ensures ∙ rw (c .before .u16-at6 .ensures, c .before .before .u16-at5 .ensures, c .before .before .before .u16-at4 .ensures, c .before .before .before .before .u16-at3 .ensures, c .before .before .before .before .before .u16-at2 .ensures, c .before .before .before .before .before .before .u16-at .ensures) (stamp-is (s .b .now) (s .at) (s .k) (s .at + 2 * s .k) (search needs) refl)
+returns c =
+    let at-u16-at4 = c .before .before .before in
+    let at-u16-at3 = at-u16-at4 .before in
+    let at-u16-at2 = at-u16-at3 .before in
+    let at-u16-at = at-u16-at2 .before in
+    let start = at-u16-at .before .before in
+    let s = start .args in c .is-datetime .ensures ∙ rw (c .before .u16-at6 .ensures, c .before .before .u16-at5 .ensures, at-u16-at4 .u16-at4 .ensures, at-u16-at3 .u16-at3 .ensures, at-u16-at2 .u16-at2 .ensures, at-u16-at .u16-at .ensures) (stamp-is (s .b .now) (s .at) (s .k) (s .at + 2 * s .k) (search needs) refl)
 
 pub stamp-fits-spec : {M : Type 1} → statement M
 stamp-fits-spec =

@@ -40,10 +40,16 @@ loop-less : tie.Need-loop-less Inv-loop μ-loop
 loop-less c = search needs
 
 loop-again : tie.Need-loop-again Inv-loop μ-loop
-loop-again c = record { within = search needs; rest = c .before .before .before .before .loop .inv .rest ∙ name-turn (c .before .before .before .before .before .before .before .before .args .s .now) (c .before .before .before .before .loop .i) true (omega arith) (sym (c .before .name-byte .ensures) ∙ c .if2 .taken) }
+loop-again c =
+    let at-loop = c .before .before .before .before in
+    let start = at-loop .before .before .before .before in
+    record { within = search needs; rest = at-loop .loop .inv .rest ∙ name-turn (start .args .s .now) (at-loop .loop .i) true (omega arith) (sym (c .before .name-byte .ensures) ∙ c .if2 .taken) }
 
 returns : tie.Need-returns Inv-loop μ-loop
-returns c = sym (c .before .before .before .before .loop .inv .rest ∙ name-turn (c .before .before .before .before .before .before .before .before .args .s .now) (c .before .before .before .before .loop .i) false (omega arith) (sym (c .before .name-byte .ensures) ∙ c .if2 .left))
+returns c =
+    let at-loop = c .before .before .before .before in
+    let start = at-loop .before .before .before .before in
+    sym (at-loop .loop .inv .rest ∙ name-turn (start .args .s .now) (at-loop .loop .i) false (omega arith) (sym (c .before .name-byte .ensures) ∙ c .if2 .left))
 
 returns-2 : tie.Need-returns-2 Inv-loop μ-loop
 returns-2 c = sym (c .before .loop .inv .rest ∙ name-end _ _ (c .loop-test .left))

@@ -94,7 +94,10 @@ part-same-start c = search needs
 
 part-same-end : tie.Need-part-same-end
 part-same-end c =
-    let h = stored-end (c .before .before .before .before .before .before .before .before .before .before .before .args .cases .now) (c .before .before .before .before .before .before .before .before .before .before .before .args .at) (c .before .before .before .before .before .before .before .before .before .u32-at .result) (c .before .before .before .before .before .before .before .before .u32-at2 .result) (c .before .before .before .before .before .before .before .before .before .before .before .pre) (c .before .before .before .before .before .before .before .before .before .u32-at .ensures) (c .before .before .before .before .before .before .before .before .u32-at2 .ensures) in
+    let at-u32-at2 = c .before .before .before .before .before .before .before .before in
+    let at-u32-at = at-u32-at2 .before in
+    let start = at-u32-at .before .before in
+    let h = stored-end (start .args .cases .now) (start .args .at) (at-u32-at .u32-at .result) (at-u32-at2 .u32-at2 .result) (start .pre) (at-u32-at .u32-at .ensures) (at-u32-at2 .u32-at2 .ensures) in
     search needs
 
 same-requires : tie.Need-same-requires
@@ -102,17 +105,24 @@ same-requires c κs = search needs
 
 returns : tie.Need-returns
 returns c =
-    answered-is (c .before .before .before .before .before .before .before .before .before .before .before .before .before .args .cases .now)
-    (c .before .before .before .before .before .before .before .before .before .before .before .before .before .args .at)
-    (c .before .before .before .before .before .before .before .before .before .before .before .u32-at .result)
-    (c .before .before .before .before .before .before .before .before .before .before .u32-at2 .result)
-    (c .before .before .before .before .before .before .before .before .before .u8-at .result)
-    (c .before .before .before .before .put-answer .result) (c .before .before .before .before .before .before .before .from-bits .result)
-    _ _ (c .same .result) (c .before .before .before .before .before .before .before .before .before .before .before .u32-at .ensures)
-    (c .before .before .before .before .before .before .before .before .before .before .u32-at2 .ensures)
-    (c .before .before .before .before .before .before .before .before .before .u8-at .ensures)
-    (c .before .before .before .before .before .before .before .from-bits .ensures ∙ ap (ofBits binary64) (c .before .before .before .before .before .before .before .before .u64-at .ensures))
-    (c .before .before .before .before .put-answer .ensures) (c .same .ensures .0)
+    let at-put-answer = c .before .before .before .before in
+    let at-from-bits = at-put-answer .before .before .before in
+    let at-u64-at = at-from-bits .before in
+    let at-u8-at = at-u64-at .before in
+    let at-u32-at2 = at-u8-at .before in
+    let at-u32-at = at-u32-at2 .before in
+    let start = at-u32-at .before .before in
+    answered-is (start .args .cases .now)
+    (start .args .at)
+    (at-u32-at .u32-at .result)
+    (at-u32-at2 .u32-at2 .result)
+    (at-u8-at .u8-at .result)
+    (at-put-answer .put-answer .result) (at-from-bits .from-bits .result)
+    _ _ (c .same .result) (at-u32-at .u32-at .ensures)
+    (at-u32-at2 .u32-at2 .ensures)
+    (at-u8-at .u8-at .ensures)
+    (at-from-bits .from-bits .ensures ∙ ap (ofBits binary64) (at-u64-at .u64-at .ensures))
+    (at-put-answer .put-answer .ensures) (c .same .ensures .0)
     (c .same .ensures .1)
 
 pub answered-spec : {M : Type 1} → statement M

@@ -40,47 +40,64 @@ put-front-requires c κs =
 
 array-share-prefix-out : tie.Need-array-share-prefix-out
 array-share-prefix-out c =
-    let h = writes-room (c .before .before .before .before .before .before .before .before .before .before .write-cell .ensures) (c .before .before .before .before .before .before .length .given .1) in
+    let at-length = c .before .before .before .before .before .before in
+    let at-write-cell = at-length .before .before .before .before in
+    let h = writes-room (at-write-cell .write-cell .ensures) (at-length .length .given .1) in
     omega arith
 
 slice-aggregate-put-bytes-at : tie.Need-slice-aggregate-put-bytes-at
 slice-aggregate-put-bytes-at c =
-    let h = writes-room (c .before .before .before .before .before .before .before .before .before .before .before .write-cell .ensures) (c .before .before .before .before .before .before .before .length .given .1) in
-    sym (length-take-le (c .before .before .before .before .before .before .before .length .given .0 .0) (c .before .before .before .before .before .before .before .before .before .before .before .write-cell .last .1 .1 .1 .0) (omega arith))
+    let at-length = c .before .before .before .before .before .before .before in
+    let at-write-cell = at-length .before .before .before .before in
+    let h = writes-room (at-write-cell .write-cell .ensures) (at-length .length .given .1) in
+    sym (length-take-le (at-length .length .given .0 .0) (at-write-cell .write-cell .last .1 .1 .1 .0) (omega arith))
 
 put-bytes-at-requires : tie.Need-put-bytes-at-requires
 put-bytes-at-requires c κs =
-    let h = writes-room (c .before .before .before .before .before .before .before .before .before .before .before .write-cell .ensures) (c .before .before .before .before .before .before .before .length .given .1) in
-    let w = c .before .before .before .before .put-front .ensures in
+    let at-put-front = c .before .before .before .before in
+    let at-length = at-put-front .before .before .before in
+    let at-write-cell = at-length .before .before .before .before in
+    let h = writes-room (at-write-cell .write-cell .ensures) (at-length .length .given .1) in
+    let w = at-put-front .put-front .ensures in
     let e = w .end in
     let l = w .long in
     simp length-take (omega arith)
 
 mul-report : tie.Need-mul-report
 mul-report c =
-    let h = writes-room (c .before .before .before .before .before .before .before .before .before .before .before .before .before .before .before .write-cell .ensures) (c .before .before .before .before .before .before .before .before .before .before .before .length .given .1) in
+    let at-length = c .before .before .before .before .before .before .before .before .before .before .before in
+    let at-write-cell = at-length .before .before .before .before in
+    let h = writes-room (at-write-cell .write-cell .ensures) (at-length .length .given .1) in
     search needs
 
 array-share-prefix-report : tie.Need-array-share-prefix-report
 array-share-prefix-report c =
-    let h = writes-room (c .before .before .before .before .before .before .before .before .before .before .before .before .before .before .before .write-cell .ensures) (c .before .before .before .before .before .before .before .before .before .before .before .length .given .1) in
+    let at-length = c .before .before .before .before .before .before .before .before .before .before .before in
+    let at-write-cell = at-length .before .before .before .before in
+    let h = writes-room (at-write-cell .write-cell .ensures) (at-length .length .given .1) in
     omega arith
 
 slice-aggregate-put-bytes-at-2 : tie.Need-slice-aggregate-put-bytes-at-2
 slice-aggregate-put-bytes-at-2 c =
-    let h = writes-room (c .before .before .before .before .before .before .before .before .before .before .before .before .before .before .before .before .write-cell .ensures) (c .before .before .before .before .before .before .before .before .before .before .before .before .length .given .1) in
-    sym (length-take-le (33 * c .before .before .before .before .before .before .before .before .before .before .before .before .length .given .0 .1 .0) (c .before .before .before .before .before .before .before .before .before .before .before .before .before .before .before .before .write-cell .last .1 .1 .1 .1 .0) (omega arith))
+    let at-length = c .before .before .before .before .before .before .before .before .before .before .before .before in
+    let at-write-cell = at-length .before .before .before .before in
+    let h = writes-room (at-write-cell .write-cell .ensures) (at-length .length .given .1) in
+    sym (length-take-le (33 * at-length .length .given .0 .1 .0) (at-write-cell .write-cell .last .1 .1 .1 .1 .0) (omega arith))
 
 put-bytes-at-requires-2 : tie.Need-put-bytes-at-requires-2
 put-bytes-at-requires-2 c κs =
-    let h = writes-room (c .before .before .before .before .before .before .before .before .before .before .before .before .before .before .before .before .write-cell .ensures) (c .before .before .before .before .before .before .before .before .before .before .before .before .length .given .1) in
-    let w = c .before .before .before .before .before .before .before .before .before .put-front .ensures in
+    let at-put-bytes-at = c .before .before .before .before in
+    let at-put-front = at-put-bytes-at .before .before .before .before .before in
+    let at-length = at-put-front .before .before .before in
+    let at-write-cell = at-length .before .before .before .before in
+    let h = writes-room (at-write-cell .write-cell .ensures) (at-length .length .given .1) in
+    let w = at-put-front .put-front .ensures in
     let e = w .end in
     let l = w .long in
-    let v = c .before .before .before .before .put-bytes-at .ensures in
+    let v = at-put-bytes-at .put-bytes-at .ensures in
     let g = v .end in
     let k = v .long in
-    let m = length-take (c .before .before .before .before .before .before .before .before .before .before .before .before .length .given .0 .0) (c .before .before .before .before .before .before .before .before .before .before .before .before .before .before .before .before .write-cell .last .1 .1 .1 .0) in
+    let m = length-take (at-length .length .given .0 .0) (at-write-cell .write-cell .last .1 .1 .1 .0) in
     simp length-take (omega arith)
 
 same-length : tie.Need-same-length
@@ -88,7 +105,10 @@ same-length c = search needs
 
 returns : tie.Need-returns
 returns c =
-    same-bytes (ap (λ (n : ℕ). refusedBytes n (c .before .before .before .before .before .before .refusal .given .0 .1 .0)) (c .before .before .before .number .ensures) ∙ refused-bytes (c .before .before .before .before .before .before .before .before .before .before .write-cell .ensures) (sym (zeros-length 16384)) (sym (zeros-length 8192)) (c .before .before .before .before .before .before .refusal .given .1))
+    let at-number = c .before .before .before in
+    let at-refusal = at-number .before .before .before in
+    let at-write-cell = at-refusal .before .before .before .before in
+    same-bytes (ap (λ (n : ℕ). refusedBytes n (at-refusal .refusal .given .0 .1 .0)) (at-number .number .ensures) ∙ refused-bytes (at-write-cell .write-cell .ensures) (sym (zeros-length 16384)) (sym (zeros-length 8192)) (at-refusal .refusal .given .1))
     (c .before .before .put-refused .ensures)
 
 same-length-2 : tie.Need-same-length-2
@@ -96,8 +116,12 @@ same-length-2 c = search needs
 
 returns-2 : tie.Need-returns-2
 returns-2 c =
-    same-bytes (accepted-bytes (c .before .before .before .before .before .before .before .before .before .before .before .before .before .before .before .before .before .before .before .write-cell .ensures) (sym (zeros-length 16384)) (sym (zeros-length 8192)) (c .before .before .before .before .before .before .before .before .before .before .before .before .before .before .before .length .given .1))
-    (then-at (then-at (c .before .before .before .before .before .before .before .before .before .before .before .before .put-front .ensures .wrote) (c .before .before .before .before .before .before .before .put-bytes-at .ensures .wrote)) (c .before .before .put-bytes-at2 .ensures .wrote))
+    let at-put-bytes-at = c .before .before .before .before .before .before .before in
+    let at-put-front = at-put-bytes-at .before .before .before .before .before in
+    let at-length = at-put-front .before .before .before in
+    let at-write-cell = at-length .before .before .before .before in
+    same-bytes (accepted-bytes (at-write-cell .write-cell .ensures) (sym (zeros-length 16384)) (sym (zeros-length 8192)) (at-length .length .given .1))
+    (then-at (then-at (at-put-front .put-front .ensures .wrote) (at-put-bytes-at .put-bytes-at .ensures .wrote)) (c .before .before .put-bytes-at2 .ensures .wrote))
 
 pub put-answer-spec : {M : Type 1} → statement M
 put-answer-spec =

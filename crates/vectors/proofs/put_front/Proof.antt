@@ -32,8 +32,13 @@ same-length c = search needs
 
 returns : tie.Need-returns
 returns c =
-    placed (same-bytes (front-is (c .before .before .before .before .before .before .before .before .before .before .before .before .before .before .before .before .before .before .args .size) (c .before .before .before .before .before .before .before .before .before .before .before .before .before .before .before .before .before .before .args .entries) (c .before .before .before .to-bits .result) (c .before .before .before .before .before .before .before .before .before .before .before .before .before .before .before .before .before .before .args .greatest) (c .before .before .before .to-bits .ensures)) (then-at (c .before .before .before .before .before .before .before .before .before .before .before .before .before .before .before .put-u8-at .ensures) (then-at (c .before .before .before .before .before .before .before .before .before .before .before .put-u32-at .ensures) (then-at (c .before .before .before .before .before .before .before .put-u32-at2 .ensures) (c .before .before .put-u64-at .ensures)))))
-    (front-length (c .before .before .before .before .before .before .before .before .before .before .before .before .before .before .before .before .before .before .args .size) (c .before .before .before .before .before .before .before .before .before .before .before .before .before .before .before .before .before .before .args .entries) (c .before .before .before .before .before .before .before .before .before .before .before .before .before .before .before .before .before .before .args .greatest))
+    let at-to-bits = c .before .before .before in
+    let at-put-u32-at2 = at-to-bits .before .before .before .before in
+    let at-put-u32-at = at-put-u32-at2 .before .before .before .before in
+    let at-put-u8-at = at-put-u32-at .before .before .before .before in
+    let start = at-put-u8-at .before .before .before in
+    placed (same-bytes (front-is (start .args .size) (start .args .entries) (at-to-bits .to-bits .result) (start .args .greatest) (at-to-bits .to-bits .ensures)) (then-at (at-put-u8-at .put-u8-at .ensures) (then-at (at-put-u32-at .put-u32-at .ensures) (then-at (at-put-u32-at2 .put-u32-at2 .ensures) (c .before .before .put-u64-at .ensures)))))
+    (front-length (start .args .size) (start .args .entries) (start .args .greatest))
 
 pub put-front-spec : {M : Type 1} → statement M
 put-front-spec =

@@ -22,8 +22,11 @@ same-length c = search needs
 
 returns : tie.Need-returns
 returns c =
-    same-bytes (refused-is (c .before .before .before .before .before .before .before .before .before .before .before .before .before .args .number) (c .before .before .before .before .before .before .before .before .before .before .before .before .before .args .block))
-    (then-at (c .before .before .before .before .before .before .before .before .before .before .put-u8-at .ensures) (then-at (c .before .before .before .before .before .before .put-u8-at2 .ensures) (c .before .before .put-u32-at .ensures)))
+    let at-put-u8-at2 = c .before .before .before .before .before .before in
+    let at-put-u8-at = at-put-u8-at2 .before .before .before .before in
+    let start = at-put-u8-at .before .before .before in
+    same-bytes (refused-is (start .args .number) (start .args .block))
+    (then-at (at-put-u8-at .put-u8-at .ensures) (then-at (at-put-u8-at2 .put-u8-at2 .ensures) (c .before .before .put-u32-at .ensures)))
 
 pub put-refused-spec : {M : Type 1} → statement M
 put-refused-spec =

@@ -12,7 +12,7 @@ use Rattle.conversion.proofs.DeviationLaws.{zero-is}
 use Rattle.sheet.specs.Cell.{elementBlocks}
 use Rattle.cell.specs.Limits.{maxSheetLength}
 use Rattle.cell.specs.Cell.{writeBlocks}
-use Rattle.walk.specs.Walk.{totalsFrom}
+use Rattle.walk.specs.code.Walk.{totalsFrom}
 use Rattle.sheet.proofs.CountLaws.{pairs-count, block-in}
 use Rattle.walk.proofs.BlocksLaws.{block-within, block-short, stands-once, left, left-start, left-stop, left-turn, left-end}
 use Rattle.walk.proofs.measure_elements.Statement.{statement}
@@ -86,27 +86,39 @@ enum-known-refusal c = search needs
 
 returns : tie.Need-returns Inv-loop μ-loop
 returns c =
-    let s = c .before .before .before .before .before .before .before .before .before in
-    let l = c .before .before .before .before .before .before .loop in
+    let at-measure-element = c .before .before .before in
+    let at-block = at-measure-element .before in
+    let at-loop-test = at-block .before in
+    let at-loop = at-loop-test .before in
+    let at-u32-at = at-loop .before in
+    let earlier = at-u32-at .before .before in
+    let s = earlier in
+    let l = at-loop .loop in
     let v = l .inv in
-    let r = c .before .before .before .measure-element in
+    let r = at-measure-element .measure-element in
     let g = c .before .refusal .given in
-    (sym (v .rest ∙ left-stop (s .args .policy) (s .args .d) (s .args .sheet .now) (c .before .before .before .before .before .before .before .u32-at .result) (l .k) (l .length) (l .entries) (l .greatest) (c .before .before .before .before .block .result .now) (r .result) (v .from) (c .before .before .before .before .before .loop-test .taken) (c .before .before .before .before .block .ensures) (r .ensures .0) (g .0 .0) (g .1)), tt)
+    (sym (v .rest ∙ left-stop (s .args .policy) (s .args .d) (s .args .sheet .now) (at-u32-at .u32-at .result) (l .k) (l .length) (l .entries) (l .greatest) (at-block .block .result .now) (r .result) (v .from) (at-loop-test .loop-test .taken) (at-block .block .ensures) (r .ensures .0) (g .0 .0) (g .1)), tt)
 
 enum-known-m : tie.Need-enum-known-m Inv-loop μ-loop
 enum-known-m c = search needs
 
 add-length : tie.Need-add-length Inv-loop μ-loop
 add-length c =
-    let s = c .before .before .before .before .before .before .before .before .before in
-    let l = c .before .before .before .before .before .before .loop in
+    let at-measure-element = c .before .before .before in
+    let at-block = at-measure-element .before in
+    let at-loop-test = at-block .before in
+    let at-loop = at-loop-test .before in
+    let at-u32-at = at-loop .before in
+    let earlier = at-u32-at .before .before in
+    let s = earlier in
+    let l = at-loop .loop in
     let v = l .inv in
-    let r = c .before .before .before .measure-element in
+    let r = at-measure-element .measure-element in
     let g = c .before .m .given in
-    let b = block-short (s .args .sheet .now) (l .k) (c .before .before .before .before .block .result .now) (r .result) (g .0 .0) (g .0 .1 .0) (s .pre .0) (c .before .before .before .before .block .ensures) (r .ensures .1) (g .1) in
+    let b = block-short (s .args .sheet .now) (l .k) (at-block .block .result .now) (r .result) (g .0 .0) (g .0 .1 .0) (s .pre .0) (at-block .block .ensures) (r .ensures .1) (g .1) in
     let p = pairs-count (s .args .sheet .now) (s .pre .1) in
-    let e = c .before .before .before .before .before .before .before .u32-at .ensures in
-    let t = c .before .before .before .before .before .loop-test .taken in
+    let e = at-u32-at .u32-at .ensures in
+    let t = at-loop-test .loop-test .taken in
     search needs
 
 entries-of-requires : tie.Need-entries-of-requires Inv-loop μ-loop
@@ -114,10 +126,13 @@ entries-of-requires c κs = search needs
 
 add-entries : tie.Need-add-entries Inv-loop μ-loop
 add-entries c =
-    let s = c .before .before .before .before .before .before .before .before .before .before in
-    let v = c .before .before .before .before .before .before .before .loop .inv in
+    let at-loop = c .before .before .before .before .before .before .before in
+    let at-u32-at = at-loop .before in
+    let earlier = at-u32-at .before .before in
+    let s = earlier in
+    let v = at-loop .loop .inv in
     let p = pairs-count (s .args .sheet .now) (s .pre .1) in
-    let e = c .before .before .before .before .before .before .before .before .u32-at .ensures in
+    let e = at-u32-at .u32-at .ensures in
     let o = stands-once (c .before .before .m .given .0 .1 .0) in
     let f = c .entries-of .ensures in
     search needs
@@ -133,14 +148,21 @@ loop-less c = search needs
 
 loop-again : tie.Need-loop-again Inv-loop μ-loop
 loop-again c =
-    let s = c .before .before .before .before .before .before .before .before .before .before .before in
-    let l = c .before .before .before .before .before .before .before .before .loop in
+    let at-m = c .before .before .before in
+    let at-measure-element = at-m .before .before in
+    let at-block = at-measure-element .before in
+    let at-loop-test = at-block .before in
+    let at-loop = at-loop-test .before in
+    let at-u32-at = at-loop .before in
+    let earlier = at-u32-at .before .before in
+    let s = earlier in
+    let l = at-loop .loop in
     let v = l .inv in
-    let r = c .before .before .before .before .before .measure-element in
-    let g = c .before .before .before .m .given in
-    let t = c .before .before .before .before .before .before .before .loop-test .taken in
-    let n = c .before .before .before .before .before .before .before .before .before .u32-at .result in
-    let b = block-short (s .args .sheet .now) (l .k) (c .before .before .before .before .before .before .block .result .now) (r .result) (g .0 .0) (g .0 .1 .0) (s .pre .0) (c .before .before .before .before .before .before .block .ensures) (r .ensures .1) (g .1) in
+    let r = at-measure-element .measure-element in
+    let g = at-m .m .given in
+    let t = at-loop-test .loop-test .taken in
+    let n = at-u32-at .u32-at .result in
+    let b = block-short (s .args .sheet .now) (l .k) (at-block .block .result .now) (r .result) (g .0 .0) (g .0 .1 .0) (s .pre .0) (at-block .block .ensures) (r .ensures .1) (g .1) in
     let o = stands-once (g .0 .1 .0) in
     let f = c .before .entries-of .ensures in
     let small = v .small in
@@ -151,7 +173,7 @@ loop-again c =
       small = omega arith;
       few = omega arith;
       rest = v .rest
-          ∙ left-turn (s .args .policy) (s .args .d) (s .args .sheet .now) n (l .k) (l .length) (l .entries) (l .greatest) (c .before .before .before .before .before .before .block .result .now) (r .result) (v .from) t (c .before .before .before .before .before .before .block .ensures) (r .ensures .0) (g .0 .0) (g .0 .1 .0) (g .1)
+          ∙ left-turn (s .args .policy) (s .args .d) (s .args .sheet .now) n (l .k) (l .length) (l .entries) (l .greatest) (at-block .block .result .now) (r .result) (v .from) t (at-block .block .ensures) (r .ensures .0) (g .0 .0) (g .0 .1 .0) (g .1)
           ∙ ap₂ (λ (x : ℕ) (y : Float). left (s .args .policy) (s .args .d) (s .args .sheet .now) n (l .k + 1) (l .length + g .0 .0) (l .entries + x) y) (sym f) (sym (c .greater-error .ensures));
     }
 

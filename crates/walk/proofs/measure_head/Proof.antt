@@ -30,19 +30,27 @@ validate-structure-name-requires c κs = search needs
 
 returns : tie.Need-returns
 returns c =
-    let a = c .before .before .before .before .before .before .before .before .before .args .b .now in
-    let h = c .before .before .before .before .before .before .before .head-of in
-    let g = c .before .before .before .before .before .places .given in
+    let at-places = c .before .before .before .before .before in
+    let at-head-of = at-places .before .before in
+    let start = at-head-of .before .before in
+    let a = start .args .b .now in
+    let h = at-head-of .head-of in
+    let g = at-places .places .given in
     let t = c .before .before .stamps-fit in
     (stamps-stop a (h .result) (h .ensures) (g .0 .0) (g .1) (t .result) (t .ensures) (c .if1 .taken), tt)
 
 returns-2 : tie.Need-returns-2
 returns-2 c =
-    let a = c .before .before .before .before .before .before .before .before .before .before .args .b .now in
-    let h = c .before .before .before .before .before .before .before .before .head-of in
-    let g = c .before .before .before .before .before .before .places .given in
-    let n = c .before .before .before .before .string-at in
-    let t = c .before .before .before .stamps-fit in
+    let at-stamps-fit = c .before .before .before in
+    let at-string-at = at-stamps-fit .before in
+    let at-places = at-string-at .before .before in
+    let at-head-of = at-places .before .before in
+    let start = at-head-of .before .before in
+    let a = start .args .b .now in
+    let h = at-head-of .head-of in
+    let g = at-places .places .given in
+    let n = at-string-at .string-at in
+    let t = at-stamps-fit .stamps-fit in
     let u = c .before .before .validate-structure-name in
     (name-stop a (h .result) (h .ensures) (g .0 .0) (g .1) (t .result) (t .ensures) (c .before .if1 .left) (n .result .now) (n .ensures) (u .result) (u .ensures) (c .if2 .taken), tt)
 
@@ -62,11 +70,16 @@ returns-3 c =
 
 returns-4 : tie.Need-returns-4
 returns-4 c =
-    let a = c .before .before .before .before .before .before .before .before .before .before .args .b .now in
-    let h = c .before .before .before .before .before .before .before .before .head-of in
-    let g = c .before .before .before .before .before .before .places .given in
-    let n = c .before .before .before .before .string-at in
-    let t = c .before .before .before .stamps-fit in
+    let at-stamps-fit = c .before .before .before in
+    let at-string-at = at-stamps-fit .before in
+    let at-places = at-string-at .before .before in
+    let at-head-of = at-places .before .before in
+    let start = at-head-of .before .before in
+    let a = start .args .b .now in
+    let h = at-head-of .head-of in
+    let g = at-places .places .given in
+    let n = at-string-at .string-at in
+    let t = at-stamps-fit .stamps-fit in
     let u = c .before .before .validate-structure-name in (
       head-through a (h .result) (h .ensures) (g .0 .0) (g .1) (t .result) (t .ensures) (c .before .if1 .left) (n .result .now) (n .ensures) (u .result) (u .ensures) (c .if2 .left),
       head-small (n .result .now) (u .result) (u .ensures) (c .if2 .left),

@@ -3,7 +3,7 @@ use mathlib.Core.Path.{refl, subst}
 use native.Mathlib.Omega.{arith}
 use borrow.Author.Needs.{needs}
 use Rattle.sheet.specs.Blocks.{pairCount}
-use Rattle.walk.specs.Walk.{HeadSmall, TotalsSmall}
+use Rattle.walk.specs.code.Walk.{HeadSmall, TotalsSmall}
 use Rattle.sheet.proofs.CountLaws.{pairs-count, block-in}
 use Rattle.walk.proofs.BlocksLaws.{pairs-hold}
 use Rattle.walk.proofs.SheetLaws.{pairs-stop, head-stop, elements-stop, sheet-through}
@@ -38,8 +38,11 @@ enum-known-front c = search needs
 
 measure-elements-requires : tie.Need-measure-elements-requires
 measure-elements-requires c κs =
-    let t = c .before .before .before .before .before .before .pairs-fit in
-    (c .before .before .before .before .before .before .before .before .pre, pairs-hold (c .before .before .before .before .before .before .before .before .args .sheet .now) (t .result) (t .ensures) (c .before .before .before .before .before .if1 .left))
+    let at-if1 = c .before .before .before .before .before in
+    let at-pairs-fit = at-if1 .before in
+    let start = at-pairs-fit .before .before in
+    let t = at-pairs-fit .pairs-fit in
+    (start .pre, pairs-hold (start .args .sheet .now) (t .result) (t .ensures) (at-if1 .if1 .left))
 
 enum-known-refusal2 : tie.Need-enum-known-refusal2
 enum-known-refusal2 c = search needs
@@ -61,37 +64,56 @@ add-t20 c =
 
 returns-2 : tie.Need-returns-2
 returns-2 c =
-    let s = c .before .before .before .before .before .before .before .before .args in
-    let t = c .before .before .before .before .before .before .pairs-fit in
-    let b = c .before .before .before .before .block in
-    let h = c .before .before .before .measure-head in
+    let at-measure-head = c .before .before .before in
+    let at-block = at-measure-head .before in
+    let at-if1 = at-block .before in
+    let at-pairs-fit = at-if1 .before in
+    let start = at-pairs-fit .before .before in
+    let s = start .args in
+    let t = at-pairs-fit .pairs-fit in
+    let b = at-block .block in
+    let h = at-measure-head .measure-head in
     let g = c .before .refusal .given in
-    (head-stop (s .policy) (s .d) (s .sheet .now) (t .result) (t .ensures) (c .before .before .before .before .before .if1 .left) (b .result .now) (b .ensures) (h .result) (h .ensures .0) (g .0 .0) (g .1), tt)
+    (head-stop (s .policy) (s .d) (s .sheet .now) (t .result) (t .ensures) (at-if1 .if1 .left) (b .result .now) (b .ensures) (h .result) (h .ensures .0) (g .0 .0) (g .1), tt)
 
 returns-3 : tie.Need-returns-3
 returns-3 c =
-    let s = c .before .before .before .before .before .before .before .before .before .before .before .before .args in
-    let t = c .before .before .before .before .before .before .before .before .before .before .pairs-fit in
-    let b = c .before .before .before .before .before .before .before .before .block in
-    let h = c .before .before .before .before .before .before .before .measure-head in
-    let f = c .before .before .before .before .before .front .given in
-    let a = c .before .before .before .measure-elements in
+    let at-measure-elements = c .before .before .before in
+    let at-front = at-measure-elements .before .before in
+    let at-measure-head = at-front .before .before in
+    let at-block = at-measure-head .before in
+    let at-if1 = at-block .before in
+    let at-pairs-fit = at-if1 .before in
+    let start = at-pairs-fit .before .before in
+    let s = start .args in
+    let t = at-pairs-fit .pairs-fit in
+    let b = at-block .block in
+    let h = at-measure-head .measure-head in
+    let f = at-front .front .given in
+    let a = at-measure-elements .measure-elements in
     let g = c .before .refusal2 .given in
-    (elements-stop (s .policy) (s .d) (s .sheet .now) (t .result) (t .ensures) (c .before .before .before .before .before .before .before .before .before .if1 .left) (b .result .now) (b .ensures) (h .result) (h .ensures .0) (f .0 .0) (f .1) (a .result) (a .ensures .0) (g .0 .0) (g .0 .1 .0) (g .1), tt)
+    (elements-stop (s .policy) (s .d) (s .sheet .now) (t .result) (t .ensures) (at-if1 .if1 .left) (b .result .now) (b .ensures) (h .result) (h .ensures .0) (f .0 .0) (f .1) (a .result) (a .ensures .0) (g .0 .0) (g .0 .1 .0) (g .1), tt)
 
 returns-4 : tie.Need-returns-4
 returns-4 c =
-    let s = c .before .before .before .before .before .before .before .before .before .before .before .before .args in
-    let t = c .before .before .before .before .before .before .before .before .before .before .pairs-fit in
-    let b = c .before .before .before .before .before .before .before .before .block in
-    let h = c .before .before .before .before .before .before .before .measure-head in
-    let f = c .before .before .before .before .before .front .given in
-    let a = c .before .before .before .measure-elements in
+    let at-measure-elements = c .before .before .before in
+    let at-front = at-measure-elements .before .before in
+    let at-measure-head = at-front .before .before in
+    let at-block = at-measure-head .before in
+    let at-if1 = at-block .before in
+    let at-pairs-fit = at-if1 .before in
+    let start = at-pairs-fit .before .before in
+    let s = start .args in
+    let t = at-pairs-fit .pairs-fit in
+    let b = at-block .block in
+    let h = at-measure-head .measure-head in
+    let f = at-front .front .given in
+    let a = at-measure-elements .measure-elements in
     let g = c .before .length .given in
     let i = subst HeadSmall (f .1) (h .ensures .1) in
     let e = subst TotalsSmall (g .1) (a .ensures .1) in
     let l = e .0 in
-    (sheet-through (s .policy) (s .d) (s .sheet .now) (t .result) (t .ensures) (c .before .before .before .before .before .before .before .before .before .if1 .left) (b .result .now) (b .ensures) (h .result) (h .ensures .0) (f .0 .0) (f .1) (a .result) (a .ensures .0) (g .0 .0) (g .0 .1 .0) (g .0 .1 .1 .0) (g .1), (omega arith, e .1))
+    (sheet-through (s .policy) (s .d) (s .sheet .now) (t .result) (t .ensures) (at-if1 .if1 .left) (b .result .now) (b .ensures) (h .result) (h .ensures .0) (f .0 .0) (f .1) (a .result) (a .ensures .0) (g .0 .0) (g .0 .1 .0) (g .0 .1 .1 .0) (g .1), (omega arith, e .1))
 
 pub measure-sheet-spec : {M : Type 1} → statement M
 measure-sheet-spec =

@@ -53,29 +53,46 @@ put-element-requires c κs = turn-fits (c .before .before .before .loop .inv) (c
 
 add-to : tie.Need-add-to Inv-loop μ-loop
 add-to c =
-    let v = c .before .before .before .before .before .before .before .loop .inv in
-    let e = turn-end v (c .before .before .before .before .before .before .loop-test .taken) (c .before .before .before .before .before .block .ensures) (c .before .before .before .put-element .ensures) in
+    let at-put-element = c .before .before .before in
+    let at-block = at-put-element .before .before in
+    let at-loop-test = at-block .before in
+    let at-loop = at-loop-test .before in
+    let start = at-loop .before .before .before .before .before .before in
+    let v = at-loop .loop .inv in
+    let e = turn-end v (at-loop-test .loop-test .taken) (at-block .block .ensures) (at-put-element .put-element .ensures) in
     let o = out-same v in
-    let q = c .before .before .before .before .before .before .before .before .before .before .before .before .before .good .1 .1 .1 .1 .0 in
+    let q = start .good .1 .1 .1 .1 .0 in
     omega arith
 
 put-entry-requires : tie.Need-put-entry-requires Inv-loop μ-loop
-put-entry-requires c κs = turn-report (c .before .before .before .before .before .before .before .before .loop .inv) (c .before .before .before .before .before .before .before .loop-test .taken) (c .before .before .before .before .before .before .block .ensures) (c .before .before .before .before .put-element .ensures)
+put-entry-requires c κs =
+    let at-put-element = c .before .before .before .before in
+    let at-block = at-put-element .before .before in
+    let at-loop-test = at-block .before in
+    let at-loop = at-loop-test .before in
+    turn-report (at-loop .loop .inv) (at-loop-test .loop-test .taken) (at-block .block .ensures) (at-put-element .put-element .ensures)
 
 add-next : tie.Need-add-next Inv-loop μ-loop
 add-next c =
-    let l = c .before .before .before .before .before .before .before .before .before .before .before .loop in
+    let at-loop = c .before .before .before .before .before .before .before .before .before .before .before in
+    let l = at-loop .loop in
     let i = l .inv .most in
     let j = l .inv .within in
     omega arith
 
 loop-less : tie.Need-loop-less Inv-loop μ-loop
 loop-less c =
-    let h = c .before .before .before .before .before .before .before .before .before .before .loop-test .taken in
+    let at-loop-test = c .before .before .before .before .before .before .before .before .before .before in
+    let h = at-loop-test .loop-test .taken in
     omega arith
 
 loop-again : tie.Need-loop-again Inv-loop μ-loop
-loop-again c = turn-next (c .before .before .before .before .before .before .before .before .before .before .before .loop .inv) (c .before .before .before .before .before .before .before .before .before .before .loop-test .taken) (c .before .before .before .before .before .before .before .before .before .block .ensures) (c .before .before .before .before .before .before .before .put-element .ensures) (c .before .before .put-entry .ensures)
+loop-again c =
+    let at-put-element = c .before .before .before .before .before .before .before in
+    let at-block = at-put-element .before .before in
+    let at-loop-test = at-block .before in
+    let at-loop = at-loop-test .before in
+    turn-next (at-loop .loop .inv) (at-loop-test .loop-test .taken) (at-block .block .ensures) (at-put-element .put-element .ensures) (c .before .before .put-entry .ensures)
 
 same-length : tie.Need-same-length Inv-loop μ-loop
 same-length c = out-same (c .before .loop .inv)

@@ -19,9 +19,12 @@ put-bytes-at-requires c κs =
 
 put-requires : tie.Need-put-requires
 put-requires c κs =
-    let s = c .before .before .before .before .before .before .before .before .before in
-    let r = entry-room (s .args .lead .now) (s .args .entry) (c .before .before .before .before .before .if1 .left) (s .args .at) (length (s .args .report .now)) (s .pre) in
-    let w = c .before .before .before .put-bytes-at .ensures in
+    let at-put-bytes-at = c .before .before .before in
+    let at-if1 = at-put-bytes-at .before .before in
+    let earlier = at-if1 .before .before .before .before in
+    let s = earlier in
+    let r = entry-room (s .args .lead .now) (s .args .entry) (at-if1 .if1 .left) (s .args .at) (length (s .args .report .now)) (s .pre) in
+    let w = at-put-bytes-at .put-bytes-at .ensures in
     let e = w .end in
     let l = w .long in
     omega arith
@@ -31,8 +34,11 @@ same-length c = search needs
 
 returns-2 : tie.Need-returns-2
 returns-2 c =
-    let s = c .before .before .before .before .before .before .before .before .before .before .before .before in
-    entry-put (s .args .lead .now) (s .args .entry) (c .before .before .before .before .before .before .before .before .if1 .left) (c .before .before .before .before .before .before .put-bytes-at .ensures .wrote) (c .before .before .put .ensures)
+    let at-put-bytes-at = c .before .before .before .before .before .before in
+    let at-if1 = at-put-bytes-at .before .before in
+    let earlier = at-if1 .before .before .before .before in
+    let s = earlier in
+    entry-put (s .args .lead .now) (s .args .entry) (at-if1 .if1 .left) (at-put-bytes-at .put-bytes-at .ensures .wrote) (c .before .before .put .ensures)
 
 pub put-entry-spec : {M : Type 1} → statement M
 put-entry-spec = tie.close (tie.spec returns put-bytes-at-requires put-requires same-length returns-2)

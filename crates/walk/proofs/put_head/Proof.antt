@@ -31,10 +31,12 @@ string-at-requires c κs = search needs
 
 put-string-at-requires : tie.Need-put-string-at-requires
 put-string-at-requires c κs =
-    let s = c .before .before .before .before .before .before .before .before .before in
+    let at-put-stamps-at = c .before .before .before .before in
+    let earlier = at-put-stamps-at .before .before .before .before .before in
+    let s = earlier in
     let a = s .args in
     let r = head-room (a .b .now) (a .places) (length (a .out .now)) (s .pre .1 .1) in
-    let h = c .before .before .before .before .put-stamps-at .ensures in
+    let h = at-put-stamps-at .put-stamps-at .ensures in
     let e = h .end in
     let l = h .long in
     let n = ap length (c .string-at .ensures) in
@@ -46,9 +48,12 @@ same-length c = search needs
 
 returns : tie.Need-returns
 returns c =
-    let s = c .before .before .before .before .before .before .before .before .before .before .before in
+    let at-string-at = c .before .before .before in
+    let at-put-stamps-at = at-string-at .before .before .before .before in
+    let earlier = at-put-stamps-at .before .before .before .before in
+    let s = earlier in
     let a = s .before .args in
-    head-put (a .b .now) (a .places) (λ i. omega (arith, s .shared-slice-known .given i)) (s .before .pre .0 .stamps-in) (c .before .before .before .string-at .ensures) (c .before .before .before .before .before .before .before .put-stamps-at .ensures) (c .before .before .put-string-at .ensures)
+    head-put (a .b .now) (a .places) (λ i. omega (arith, s .shared-slice-known .given i)) (s .before .pre .0 .stamps-in) (at-string-at .string-at .ensures) (at-put-stamps-at .put-stamps-at .ensures) (c .before .before .put-string-at .ensures)
 
 pub put-head-spec : {M : Type 1} → statement M
 put-head-spec =

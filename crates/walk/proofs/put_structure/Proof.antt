@@ -28,9 +28,12 @@ put-head-requires c κs =
 
 sub-put-elements : tie.Need-sub-put-elements
 sub-put-elements c =
-    let s = c .before .before .before .before .before .before .before .before .before .before .before .before .before in
-    let h = c .before .before .before .before .before .before .before in
-    start-in (s .args .lead .now) (s .args .out .now) (s .args .report .now) (s .pre) (h .before .block .ensures) (h .head-of .ensures) (c .before .before .before .before .before .places .given .1) (c .before .before .put-head .ensures)
+    let at-places = c .before .before .before .before .before in
+    let earlier = at-places .before .before in
+    let earlier-2 = earlier .before .before .before .before .before .before in
+    let s = earlier-2 in
+    let h = earlier in
+    start-in (s .args .lead .now) (s .args .out .now) (s .args .report .now) (s .pre) (h .before .block .ensures) (h .head-of .ensures) (at-places .places .given .1) (c .before .before .put-head .ensures)
 
 part-put-elements-start : tie.Need-part-put-elements-start
 part-put-elements-start c = search needs
@@ -40,23 +43,37 @@ part-put-elements-end c = search needs
 
 put-elements-requires : tie.Need-put-elements-requires
 put-elements-requires c κs =
-    let s = c .before .before .before .before .before .before .before .before .before .before .before .before .before .before .before in
-    let h = c .before .before .before .before .before .before .before .before .before in
-    (sheet-pairs (s .args .lead .now) (s .args .out .now) (s .args .report .now) (s .pre), elements-fit (s .args .lead .now) (s .args .out .now) (s .args .report .now) (s .pre) (h .before .block .ensures) (h .head-of .ensures) (c .before .before .before .before .before .before .before .places .given .1) (c .before .before .before .before .put-head .ensures))
+    let at-put-head = c .before .before .before .before in
+    let at-places = at-put-head .before .before .before in
+    let earlier = at-places .before .before in
+    let earlier-2 = earlier .before .before .before .before .before .before in
+    let s = earlier-2 in
+    let h = earlier in
+    (sheet-pairs (s .args .lead .now) (s .args .out .now) (s .args .report .now) (s .pre), elements-fit (s .args .lead .now) (s .args .out .now) (s .args .report .now) (s .pre) (h .before .block .ensures) (h .head-of .ensures) (at-places .places .given .1) (at-put-head .put-head .ensures))
 
 add-put-empty-at : tie.Need-add-put-empty-at
 add-put-empty-at c =
-    let s = c .before .before .before .before .before .before .before .before .before .before .before .before .before .before .before .before .before .before .before .before .before .before in
-    let h = c .before .before .before .before .before .before .before .before .before .before .before .before .before .before .before .before in
-    let e = end-within (s .args .lead .now) (s .args .out .now) (s .args .report .now) (s .pre) (h .before .block .ensures) (h .head-of .ensures) (c .before .before .before .before .before .before .before .before .before .before .before .before .before .before .places .given .1) (c .before .before .before .before .before .before .before .before .before .before .before .put-head .ensures) (c .before .before .before .before .before .before .put-elements .ensures) in
+    let at-put-elements = c .before .before .before .before .before .before in
+    let at-put-head = at-put-elements .before .before .before .before .before in
+    let at-places = at-put-head .before .before .before in
+    let earlier = at-places .before .before in
+    let earlier-2 = earlier .before .before .before .before .before .before in
+    let s = earlier-2 in
+    let h = earlier in
+    let e = end-within (s .args .lead .now) (s .args .out .now) (s .args .report .now) (s .pre) (h .before .block .ensures) (h .head-of .ensures) (at-places .places .given .1) (at-put-head .put-head .ensures) (at-put-elements .put-elements .ensures) in
     let q = s .good .1 .1 .1 .1 .0 in
     omega arith
 
 put-empty-at-requires : tie.Need-put-empty-at-requires
 put-empty-at-requires c κs =
-    let s = c .before .before .before .before .before .before .before .before .before .before .before .before .before .before .before .before .before .before .before .before .before .before in
-    let h = c .before .before .before .before .before .before .before .before .before .before .before .before .before .before .before .before in
-    end-fits (s .args .lead .now) (s .args .out .now) (s .args .report .now) (s .pre) (h .before .block .ensures) (h .head-of .ensures) (c .before .before .before .before .before .before .before .before .before .before .before .before .before .before .places .given .1) (c .before .before .before .before .before .before .before .before .before .before .before .put-head .ensures) (c .before .before .before .before .before .before .put-elements .ensures)
+    let at-put-elements = c .before .before .before .before .before .before in
+    let at-put-head = at-put-elements .before .before .before .before .before in
+    let at-places = at-put-head .before .before .before in
+    let earlier = at-places .before .before in
+    let earlier-2 = earlier .before .before .before .before .before .before in
+    let s = earlier-2 in
+    let h = earlier in
+    end-fits (s .args .lead .now) (s .args .out .now) (s .args .report .now) (s .pre) (h .before .block .ensures) (h .head-of .ensures) (at-places .places .given .1) (at-put-head .put-head .ensures) (at-put-elements .put-elements .ensures)
 
 returns : tie.Need-returns
 returns c =
@@ -72,9 +89,14 @@ same-length-2 c = search needs
 
 returns-2 : tie.Need-returns-2
 returns-2 c =
-    let s = c .before .before .before .before .before .before .before .before .before .before .before .before .before .before .before .before .before .before .before .before .before .before .before .before .before in
-    let h = c .before .before .before .before .before .before .before .before .before .before .before .before .before .before .before .before .before .before .before in
-    puts-structure (s .args .lead .now) (s .args .out .now) (s .args .report .now) (s .pre) (h .before .block .ensures) (h .head-of .ensures) (c .before .before .before .before .before .before .before .before .before .before .before .before .before .before .before .before .before .places .given .1) (c .before .before .before .before .before .before .before .before .before .before .before .before .before .before .put-head .ensures) (c .before .before .before .before .before .before .before .before .before .put-elements .ensures) (c .before .before .put-empty-at .ensures)
+    let at-put-elements = c .before .before .before .before .before .before .before .before .before in
+    let at-put-head = at-put-elements .before .before .before .before .before in
+    let at-places = at-put-head .before .before .before in
+    let earlier = at-places .before .before in
+    let earlier-2 = earlier .before .before .before .before .before .before in
+    let s = earlier-2 in
+    let h = earlier in
+    puts-structure (s .args .lead .now) (s .args .out .now) (s .args .report .now) (s .pre) (h .before .block .ensures) (h .head-of .ensures) (at-places .places .given .1) (at-put-head .put-head .ensures) (at-put-elements .put-elements .ensures) (c .before .before .put-empty-at .ensures)
 
 pub put-structure-spec : {M : Type 1} → statement M
 put-structure-spec =

@@ -43,11 +43,13 @@ same-length-2 c = search needs
 
 returns-2 : tie.Need-returns-2
 returns-2 c =
-    let k = c .before .before .before .before .before .before .before .before in
+    let at-write-sheet = c .before .before .before .before in
+    let earlier = at-write-sheet .before .before .before .before in
+    let k = earlier in
     let v = k .before .before .check-call in
     let s = k .before .before .before .before .before in
     let a = s .before .args in
-    cell-written (a .out .now) (a .report .now) (s .before .good .1 .0 .1) (sheet-bytes s) (cell-is (a .policy) (a .d) (a .sheet .now) (v .result) (v .ensures) (k .rounding .given .1)) (c .before .before .before .before .write-sheet .ensures)
+    cell-written (a .out .now) (a .report .now) (s .before .good .1 .0 .1) (sheet-bytes s) (cell-is (a .policy) (a .d) (a .sheet .now) (v .result) (v .ensures) (k .rounding .given .1)) (at-write-sheet .write-sheet .ensures)
 
 pub write-cell-spec : {M : Type 1} → statement M
 write-cell-spec =

@@ -56,9 +56,13 @@ same-length-2 c = search needs
 
 returns-4 : tie.Need-returns-4
 returns-4 c =
-    let m = c .before .before .before .before .before .before .before .before .before .before .before in
+    let at-put-structure = c .before .before .before .before in
+    let at-if2 = at-put-structure .before .before .before .before in
+    let at-if1 = at-if2 .before in
+    let earlier = at-if1 .before .before in
+    let m = earlier in
     let a = m .before .before .before .before .before .before .args in
-    sheet-written (a .out .now) (a .report .now) (accepted m) (c .before .before .before .before .before .before .before .before .before .if1 .left) (c .before .before .before .before .before .before .before .before .if2 .left) (c .before .before .before .before .put-structure .ensures)
+    sheet-written (a .out .now) (a .report .now) (accepted m) (at-if1 .if1 .left) (at-if2 .if2 .left) (at-put-structure .put-structure .ensures)
 
 pub write-sheet-spec : {M : Type 1} → statement M
 write-sheet-spec =

@@ -5,10 +5,10 @@ use Prim.Native.Nat.{ℕ, _-_, _*_, _^_, _≤_, _<_}
 use native.Mathlib.Nat.{le-of-lt}
 use native.Mathlib.Omega.{arith}
 use lib.Ieee.{Float, binary64, sum}
-use Rattle.mul_add.specs.Places.{scale}
-use Rattle.mul_add.specs.Wide.{wide}
-use Rattle.mul_add.specs.Jam.{jam}
-use Rattle.mul_add.specs.Normal.{Ready}
+use Rattle.mul_add.specs.code.Places.{scale}
+use Rattle.mul_add.specs.code.Wide.{wide}
+use Rattle.mul_add.specs.code.Jam.{jam}
+use Rattle.mul_add.specs.code.Normal.{Ready}
 use Rattle.mul_add.proofs.WideLaws.{high-lt, jam-under}
 use Rattle.mul_add.proofs.SumLaws.{sum-comm}
 use Rattle.mul_add.proofs.AlignLaws.{sum-aligned}

@@ -6,8 +6,8 @@ use native.Mathlib.Nat.{le-of-lt, le-antisymm, add-mul, mul-lt-mul-of-pos-right}
 use lib.Pow.{pow-pos}
 use lib.Ieee.{binary64, round, ofBits}
 use borrow.Author.Tests.{ltb-true, ltb-false}
-use Rattle.mul_add.specs.Places.{scale}
-use Rattle.mul_add.specs.Wide.{wide}
+use Rattle.mul_add.specs.code.Places.{scale}
+use Rattle.mul_add.specs.code.Wide.{wide}
 use Rattle.mul_add.proofs.SumLaws.{sum-like, sum-less, sum-more, sum-level}
 use Rattle.mul_add.proofs.AlignLaws.{sub-mul}
 use borrow.Author.Needs.{needs}

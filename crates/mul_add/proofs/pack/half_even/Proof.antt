@@ -5,7 +5,7 @@ use native.Mathlib.Nat.{le-trans}
 use native.Mathlib.Omega.{arith}
 use lib.Pow.{pow-mono}
 use lib.Ieee.Nearest.{closest}
-use Rattle.mul_add.specs.Places.{word}
+use Rattle.mul_add.specs.code.Places.{word}
 use Rattle.mul_add.proofs.HalfEvenLaws.{cut-back-le, even-below, even-above, even-tie, even-room, even-none, even-one}
 use borrow.Author.Needs.{needs}
 use Rattle.mul_add.proofs.pack.half_even.Statement.{statement}

@@ -5,8 +5,8 @@ use Prim.Native.Nat.{ℕ, _+_, _*_, _^_}
 use native.Mathlib.Nat.{add-comm, zero-add}
 use lib.Dec.{T}
 use lib.Ieee.{binary64, round, ofBits, nanBits}
-use Rattle.mul_add.specs.Places.{scale, signBit}
-use Rattle.mul_add.specs.Pattern.{Pattern}
+use Rattle.mul_add.specs.code.Places.{scale, signBit}
+use Rattle.mul_add.specs.code.Pattern.{Pattern}
 use Rattle.mul_add.proofs.PatternLaws.{pattern-no-nan}
 use borrow.Author.Needs.{needs}
 use Rattle.mul_add.proofs.pack.pack.Statement.{statement}

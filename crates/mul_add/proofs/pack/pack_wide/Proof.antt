@@ -5,9 +5,9 @@ use native.Mathlib.Nat.{le-of-lt}
 use native.Mathlib.Omega.{arith}
 use lib.Count.{leadingZeros}
 use lib.Ieee.{binary64, round}
-use Rattle.mul_add.specs.Places.{word, scale}
-use Rattle.mul_add.specs.Wide.{wide}
-use Rattle.mul_add.specs.Jam.{jam}
+use Rattle.mul_add.specs.code.Places.{word, scale}
+use Rattle.mul_add.specs.code.Wide.{wide}
+use Rattle.mul_add.specs.code.Jam.{jam}
 use Rattle.mul_add.proofs.LeadLaws.{Lead, lead, zeros-fit}
 use Rattle.mul_add.proofs.JamLaws.{round-jam}
 use Rattle.mul_add.proofs.WideLaws.{one-word, only-low}

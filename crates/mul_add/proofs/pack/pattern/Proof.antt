@@ -5,8 +5,8 @@ use native.Mathlib.Nat.{le-of-lt, le-trans, le-add-left}
 use native.Mathlib.Omega.{arith}
 use lib.Count.{leadingZeros}
 use lib.Ieee.Nearest.{closest}
-use Rattle.mul_add.specs.Places.{word, unitPlace, excess, normalFrom, infiniteFrom, hidden, infinity}
-use Rattle.mul_add.specs.Pattern.{Pattern}
+use Rattle.mul_add.specs.code.Places.{word, unitPlace, excess, normalFrom, infiniteFrom, hidden, infinity}
+use Rattle.mul_add.specs.code.Pattern.{Pattern}
 use Rattle.mul_add.proofs.LeadLaws.{Lead, lead, zeros-fit, lead-exact}
 use Rattle.mul_add.proofs.PatternLaws.{pattern-zero, pattern-finite, pattern-infinite}
 use borrow.Author.Needs.{needs}

@@ -2,7 +2,7 @@
 use mathlib.Core.Path.{ap, _∙_}
 use Prim.Native.Nat.{ℕ, _/_, _^_}
 use native.Mathlib.Nat.{le-of-lt}
-use Rattle.mul_add.specs.Wide.{wide}
+use Rattle.mul_add.specs.code.Wide.{wide}
 use Rattle.mul_add.proofs.WideLaws.{room, jam-whole, jam-words}
 use borrow.Author.Needs.{needs}
 use Rattle.mul_add.proofs.wide.jam_within.Statement.{statement}

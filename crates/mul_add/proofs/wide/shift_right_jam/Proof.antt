@@ -2,9 +2,9 @@
 use mathlib.Core.Path.{_≡_, ap, _∙_}
 use Prim.Native.Nat.{ℕ, _+_, _-_, _≤_}
 use native.Mathlib.Omega.{arith}
-use Rattle.mul_add.specs.Places.{word}
-use Rattle.mul_add.specs.Wide.{wide}
-use Rattle.mul_add.specs.Jam.{jam}
+use Rattle.mul_add.specs.code.Places.{word}
+use Rattle.mul_add.specs.code.Wide.{wide}
+use Rattle.mul_add.specs.code.Jam.{jam}
 use Rattle.mul_add.proofs.WideLaws.{jam-all}
 use borrow.Author.Needs.{needs}
 use Rattle.mul_add.proofs.wide.shift_right_jam.Statement.{statement}

@@ -1,7 +1,7 @@
 -- `stick` meets its contract. Assumes nothing.
 use mathlib.Core.Path.{sym, ap}
 use mathlib.Core.Bool.{Bool}
-use Rattle.mul_add.specs.Jam.{sticky}
+use Rattle.mul_add.specs.code.Jam.{sticky}
 use borrow.Author.Needs.{needs}
 use Rattle.mul_add.proofs.wide.stick.Statement.{statement}
 use Rattle.mul_add.proofs.wide.stick.Tie as tie

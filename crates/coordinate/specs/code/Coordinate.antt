@@ -9,10 +9,10 @@ use Rattle.units.specs.Point.{Point}
 use Rattle.conversion.specs.declared.Conversion.{Conversion}
 use Rattle.conversion.specs.declared.Conversion.the-variants as C
 use Rattle.conversion.specs.declared.Entry.{Entry}
-use Rattle.conversion.specs.Answer.{outcome}
+use Rattle.conversion.specs.code.Answer.{outcome}
 use Rattle.conversion.specs.Field.{xAxis, yAxis}
 use Rattle.conversion.specs.Made.{Made, pure, _>>=_}
-use Rattle.conversion.specs.Fold.{run}
+use Rattle.conversion.specs.code.Fold.{run}
 use Rattle.conversion.specs.Points.{spot}
 use Rattle.coordinate.specs.declared.Valued.{Valued}
 use Rattle.coordinate.specs.declared.Valued.the-variants as G

@@ -9,9 +9,9 @@ use Rattle.sheet.specs.Element as S
 use Rattle.stream.specs.Structure as D
 use Rattle.stream.specs.Record.{Rec, PATH, LAYER, DATATYPE, PATHTYPE, WIDTH, BGNEXTN, ENDEXTN, XY, fourByte, streamBytes}
 use Rattle.stream.specs.Records.{emptyRecord, wordRecord, longRecord, opt, pathRecords}
-use Rattle.records.specs.Bytes.{headBytes}
+use Rattle.records.specs.code.Bytes.{headBytes}
 use Rattle.cell.specs.Write.{isSome}
-use Rattle.path.specs.Front.{Extent}
+use Rattle.path.specs.code.Front.{Extent}
 
 unfoldable pub pathBytes : D.Path → List ℕ
 pathBytes w = streamBytes (pathRecords w [])

@@ -9,7 +9,7 @@ use lib.ListN.{length}
 use lib.Ieee.{Float}
 use Rattle.refusal.specs.declared.Refusal.the-variants as R
 use Rattle.conversion.specs.declared.GdsRoundingPolicy.{GdsRoundingPolicy}
-use Rattle.conversion.specs.Fold.{blankEntry, run}
+use Rattle.conversion.specs.code.Fold.{blankEntry, run}
 use Rattle.sheet.specs.Element.{Element, kindOf, elementOf}
 use Rattle.stream.specs.Structure.{SaidBody}
 use Rattle.stream.specs.Record.{streamBytes}
@@ -19,14 +19,14 @@ use Rattle.cell.specs.Order.{Accepted}
 use Rattle.writing.specs.declared.Measured.{Measured}
 use Rattle.writing.specs.declared.Measured.the-variants as M
 use Rattle.writing.specs.declared.Written.{Written}
-use Rattle.writing.specs.Steps.{sizing, Writes}
+use Rattle.writing.specs.code.Steps.{sizing, Writes}
 use Rattle.forms.specs.declared.BodyPlaces.{BodyPlaces}
 use Rattle.forms.specs.declared.BodyPlaces.the-variants as B
-use Rattle.forms.specs.Forms.{pathAt}
-use Rattle.shape.specs.Shape.{shapeLength}
-use Rattle.path.specs.Length.{pathLength}
-use Rattle.text.specs.Text.{textLength}
-use Rattle.reference.specs.Reference.{referenceLength}
+use Rattle.forms.specs.code.Forms.{pathAt}
+use Rattle.shape.specs.code.Shape.{shapeLength}
+use Rattle.path.specs.code.Length.{pathLength}
+use Rattle.text.specs.code.Text.{textLength}
+use Rattle.reference.specs.code.Reference.{referenceLength}
 
 -- ---- an element's bytes before its properties
 

@@ -16,10 +16,10 @@ use Rattle.stream.specs.Record.{streamBytes}
 use Rattle.stream.specs.Records.{textRecords}
 use Rattle.cell.specs.Write.{writeTransform}
 use Rattle.forms.specs.declared.TextPlaces.{TextPlaces}
-use Rattle.forms.specs.Place.{stringAt}
+use Rattle.forms.specs.code.Place.{stringAt}
 use Rattle.transform.specs.declared.Strans.{Strans}
-use Rattle.transform.specs.Strans.{saidOf, transformLength}
-use Rattle.writing.specs.Ready.{Ready, stopped, ready}
+use Rattle.transform.specs.code.Strans.{saidOf, transformLength}
+use Rattle.writing.specs.code.Ready.{Ready, stopped, ready}
 use Rattle.text.specs.declared.TextValues.{TextValues}
 use Rattle.text.specs.declared.TextValues.the-variants as X
 

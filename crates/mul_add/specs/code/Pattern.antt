@@ -3,7 +3,7 @@ use mathlib.Core.Path.{_≡_}
 use mathlib.Core.Bool.{Bool, cond}
 use Prim.Native.Nat.{ℕ, _+_, _*_, _^_, _≤_}
 use lib.Ieee.{binary64, round, ofBits}
-use Rattle.mul_add.specs.Places.{scale, signBit, infinity}
+use Rattle.mul_add.specs.code.Places.{scale, signBit, infinity}
 
 -- r is the pattern, with no sign, of m * 2 ^ p over 2 ^ scale, rounded: of one of the doubles from zero to infinity
 pub record Pattern (m p r : ℕ) : Type 0 where

@@ -14,7 +14,7 @@ use Rattle.big_endian.specs.Big.{numberAt}
 use Rattle.conversion.specs.declared.Entry.{Entry}
 use Rattle.conversion.specs.declared.GdsRoundingPolicy.{GdsRoundingPolicy}
 use Rattle.conversion.specs.Array.{ArrayPoints, convertArray}
-use Rattle.conversion.specs.Fold.{run}
+use Rattle.conversion.specs.code.Fold.{run}
 use Rattle.conversion.specs.Made.{Made, refused, pure, need, _>>=_, _>>_}
 use Rattle.sheet.specs.Element as S
 use Rattle.stream.specs.Strings.{padded}
@@ -25,12 +25,12 @@ use Rattle.cell.specs.Limits.{within, maxNameLength, maxColRow}
 use Rattle.cell.specs.Names.{isName}
 use Rattle.cell.specs.Write.{isSome, single, inUnit, writeTransform, writeSref, writeAref}
 use Rattle.forms.specs.declared.ReferencePlaces.{ReferencePlaces}
-use Rattle.forms.specs.Place.{spacingAt, stringAt}
+use Rattle.forms.specs.code.Place.{spacingAt, stringAt}
 use Rattle.transform.specs.declared.Strans.{Strans}
-use Rattle.transform.specs.Strans.{saidOf, stransBytes, stransLength, transformLength}
-use Rattle.writing.specs.Ready.{Ready, stopped, ready}
+use Rattle.transform.specs.code.Strans.{saidOf, stransBytes, stransLength, transformLength}
+use Rattle.writing.specs.code.Ready.{Ready, stopped, ready}
 use Rattle.array.specs.declared.Corners.{Corners}
-use Rattle.array.specs.Corners.{cornersFor, stepsOf}
+use Rattle.array.specs.code.Corners.{cornersFor, stepsOf}
 use Rattle.reference.specs.declared.Check.{Check}
 use Rattle.reference.specs.declared.Check.the-variants as C
 use Rattle.reference.specs.declared.ReferenceValues.{ReferenceValues}

@@ -12,7 +12,7 @@ use mir.Syntax.{w32}
 use Rattle.big_endian.specs.Big.{numberAt}
 use Rattle.units.specs.Point.{Point}
 use Rattle.units.specs.Physical.{passed}
-use Rattle.forms.specs.Place.{valuesFrom, unitAt, pointEnd}
+use Rattle.forms.specs.code.Place.{valuesFrom, unitAt, pointEnd}
 
 -- the lower four value bytes of a coordinate
 abbrev pub integerAt : List ℕ → ℕ → ℤ

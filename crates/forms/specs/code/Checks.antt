@@ -19,7 +19,7 @@ use Rattle.forms.specs.declared.HeadForm.{HeadForm}
 use Rattle.forms.specs.declared.HeadForm.the-variants as H
 use Rattle.forms.specs.declared.ElementForm.{ElementForm}
 use Rattle.forms.specs.declared.ElementForm.the-variants as E
-use Rattle.forms.specs.Forms.{bodyAt, propertiesAt, headFormAt, elementAt, HeadIn, BodyIn, PropertiesIn, ElementIn}
+use Rattle.forms.specs.code.Forms.{bodyAt, propertiesAt, headFormAt, elementAt, HeadIn, BodyIn, PropertiesIn, ElementIn}
 
 -- a coordinate that is not absent
 abbrev pub given : Form Coordinate.Unit

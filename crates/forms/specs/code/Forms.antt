@@ -20,7 +20,7 @@ use Rattle.forms.specs.declared.HeadForm.{HeadForm}
 use Rattle.forms.specs.declared.HeadForm.the-variants as H
 use Rattle.forms.specs.declared.ElementForm.{ElementForm}
 use Rattle.forms.specs.declared.ElementForm.the-variants as E
-use Rattle.forms.specs.Place.{placeFrom, wordsFrom, doubleAt, coordinateAt, pointAt, pointsFrom, spacingAt, stringAt, stringEnd, propertyEnd, propertiesFrom}
+use Rattle.forms.specs.code.Place.{placeFrom, wordsFrom, doubleAt, coordinateAt, pointAt, pointsFrom, spacingAt, stringAt, stringEnd, propertyEnd, propertiesFrom}
 
 -- ---- what the places tell
 

@@ -11,7 +11,7 @@ use Rattle.stream.specs.Structure as D
 use Rattle.stream.specs.Record.{streamBytes}
 use Rattle.stream.specs.Records.{stransRecords}
 use Rattle.cell.specs.Write.{stransOf}
-use Rattle.records.specs.Bytes.{optionOf}
+use Rattle.records.specs.code.Bytes.{optionOf}
 use Rattle.transform.specs.declared.Real.{Real}
 use Rattle.transform.specs.declared.Real.the-variants as R
 use Rattle.transform.specs.declared.Strans.{Strans}

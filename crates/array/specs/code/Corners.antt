@@ -12,13 +12,13 @@ use Rattle.units.specs.Point.{Point, endpoint}
 use Rattle.conversion.specs.declared.Entry.{Entry}
 use Rattle.conversion.specs.declared.GdsRoundingPolicy.{GdsRoundingPolicy}
 use Rattle.conversion.specs.Made.{Made, Done, refused, pure, _>>=_, _>>_}
-use Rattle.conversion.specs.Answer.{pointOf}
+use Rattle.conversion.specs.code.Answer.{pointOf}
 use Rattle.conversion.specs.Array.{ArrayPoints, physicalSpacing, turned, writePhysical, writeEndpoint}
 use Rattle.conversion.specs.Field.{columnSpacingField, rowSpacingField, columnEndpointField, rowEndpointField}
-use Rattle.conversion.specs.Fold.{run}
+use Rattle.conversion.specs.code.Fold.{run}
 use Rattle.coordinate.specs.declared.Pointed.{Pointed}
 use Rattle.coordinate.specs.declared.Pointed.the-variants as P
-use Rattle.coordinate.specs.Coordinate.{pointed, PointGrown}
+use Rattle.coordinate.specs.code.Coordinate.{pointed, PointGrown}
 use Rattle.array.specs.declared.Physical.{Physical}
 use Rattle.array.specs.declared.Physical.the-variants as F
 use Rattle.array.specs.declared.ArrayPoint.{ArrayPoint}

@@ -14,9 +14,9 @@ use Rattle.stream.specs.Record.{BOUNDARY, DATATYPE, NODE, NODETYPE, LAYER, XY, 
 use Rattle.stream.specs.Records.{emptyRecord, wordRecord, shapeRecords}
 use Rattle.cell.specs.Limits.{within}
 use Rattle.cell.specs.Write.{layerAndType}
-use Rattle.records.specs.Bytes.{headBytes}
+use Rattle.records.specs.code.Bytes.{headBytes}
 use Rattle.points.specs.declared.Walked.{Walked}
-use Rattle.points.specs.Walk.{walked}
+use Rattle.points.specs.code.Walk.{walked}
 use Rattle.shape.specs.declared.Check.{Check}
 use Rattle.shape.specs.declared.Check.the-variants as C
 

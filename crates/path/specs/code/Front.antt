@@ -12,12 +12,12 @@ use Rattle.refusal.specs.declared.Refusal.the-variants as R
 use Rattle.conversion.specs.declared.GdsRoundingPolicy.{GdsRoundingPolicy}
 use Rattle.conversion.specs.declared.Entry.{Entry}
 use Rattle.conversion.specs.Made.{Made, pure, need, _>>=_, _>>_}
-use Rattle.conversion.specs.Fold.{run}
+use Rattle.conversion.specs.code.Fold.{run}
 use Rattle.conversion.specs.Points.{writeLength}
 use Rattle.conversion.specs.Field.{widthField, beginField, endField}
 use Rattle.sheet.specs.Element as S
-use Rattle.records.specs.Bytes.{optionOf}
-use Rattle.writing.specs.Ready.{Ready, stopped, ready}
+use Rattle.records.specs.code.Bytes.{optionOf}
+use Rattle.writing.specs.code.Ready.{Ready, stopped, ready}
 use Rattle.cell.specs.Limits.{within, minPathPoints, maxPoints}
 use Rattle.cell.specs.Write.{isSome, layerAndType}
 use Rattle.path.specs.declared.Length.{Length}
