@@ -111,7 +111,7 @@ pub struct PhysicalPoint {
 }
 
 // The policy of a number up to 3.
-pub fn policy_of(n: u8) -> GdsRoundingPolicy
+fn policy_of(n: u8) -> GdsRoundingPolicy
     requires { ⌜ n ≤ maxPolicy ⌝ }
     ensures { λ r. ⌜ policyOf n ≡ some r ⌝ }
 {

@@ -1,5 +1,5 @@
 -- How many pairs there are where they fit, the blocks after the head in turn, and that blocks are bytes. Assumes nothing.
-use mathlib.Core.Path.{_≡_, refl, ap, _∙_}
+use mathlib.Core.Path.{_≡_, ap, _∙_}
 use mathlib.Core.Bool.{_&&_}
 use mathlib.Core.List.{List, [], _∷_}
 use Prim.Native.Nat.{ℕ, zero, suc, _+_, _-_, _*_, _≤_, _<_}
@@ -51,12 +51,6 @@ unfolding blocksFrom
 blocks-end n k s h =
     let z : n - k ≡ 0 = omega arith in
     ap (λ (j : ℕ). blocksFrom j k s) z
-
--- as many as were asked for
-pub length-blocks : (n k : ℕ) (s : List ℕ) → length (blocksFrom n k s) ≡ n
-unfolding blocksFrom
-length-blocks zero k s = refl
-length-blocks (suc n) k s = ap suc (length-blocks n (suc k) s)
 
 -- ---- blocks are bytes
 

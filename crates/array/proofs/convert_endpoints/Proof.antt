@@ -46,50 +46,39 @@ returns c =
 
 returns-2 : tie.Need-returns-2
 returns-2 c =
-    let at-convert-endpoint2 = c .before .before .before in
-    let at-x1 = at-convert-endpoint2 .before .before in
-    let at-convert-endpoint = at-x1 .before .before in
-    let start = at-convert-endpoint .before in
-    let a = start .args in
-    let r = at-convert-endpoint .convert-endpoint in
+    let a = c .before .before .before .before .before .before .before .before .args in
+    let r = c .before .before .before .before .before .before .before .convert-endpoint in
     let o = a .origin in
     let u = a .column in
     let v = a .row in
-    let g = at-x1 .x1 .given in
-    let t = at-convert-endpoint2 .convert-endpoint2 in
+    let g = c .before .before .before .before .before .x1 .given in
+    let t = c .before .before .before .convert-endpoint2 in
     let k = c .before .refusal2 .given in
     λ policy. rows-stop policy (a .d) (a .columns) (a .rows) (physicalPart o) (databasePart o) (physicalPart u) (physicalPart v) (databasePart u) (databasePart v) (a .entry) (r .result) (r .ensures policy) (g .0 .0) (g .0 .1 .0) (g .0 .1 .1 .0) (g .1) (t .result) (t .ensures policy) (k .0 .0) (k .1)
 
 returns-3 : tie.Need-returns-3
 returns-3 c =
-    let at-known-told4 = c .before .before .before in
-    let at-x2 = at-known-told4 .before in
-    let at-convert-endpoint2 = at-x2 .before .before in
-    let at-known-told2 = at-convert-endpoint2 .before in
-    let at-x1 = at-known-told2 .before in
-    let at-convert-endpoint = at-x1 .before .before in
-    let start = at-convert-endpoint .before in
-    let a = start .args in
-    let r = at-convert-endpoint .convert-endpoint in
+    let a = c .before .before .before .before .before .before .before .before .before .before .before .args in
+    let r = c .before .before .before .before .before .before .before .before .before .before .convert-endpoint in
     let o = a .origin in
     let u = a .column in
     let v = a .row in
-    let g = at-x1 .x1 .given in
-    let t = at-convert-endpoint2 .convert-endpoint2 in
-    let k = at-x2 .x2 .given in
-    let go = start .good .1 .1 .1 .0 in
+    let g = c .before .before .before .before .before .before .before .before .x1 .given in
+    let t = c .before .before .before .before .before .before .convert-endpoint2 in
+    let k = c .before .before .before .before .x2 .given in
+    let go = c .before .before .before .before .before .before .before .before .before .before .before .good .1 .1 .1 .0 in
     let f0 : SFits w32 (o .x) = search needs in
     let f1 : SFits w32 (o .y) = search needs in
-    let gu = start .good .1 .1 .1 .1 .0 in
+    let gu = c .before .before .before .before .before .before .before .before .before .before .before .good .1 .1 .1 .1 .0 in
     let f2 : SFits w32 (u .x) = search needs in
     let f3 : SFits w32 (u .y) = search needs in
-    let gv = start .good .1 .1 .1 .1 .1 .0 in
+    let gv = c .before .before .before .before .before .before .before .before .before .before .before .good .1 .1 .1 .1 .1 .0 in
     let f4 : SFits w32 (v .x) = search needs in
     let f5 : SFits w32 (v .y) = search needs in
-    let g1 = at-known-told2 .known-told2 .given in
+    let g1 = c .before .before .before .before .before .before .before .known-told2 .given in
     let f6 : SFits w32 (g .0 .0) = search needs in
     let f7 : SFits w32 (g .0 .1 .0) = search needs in
-    let g2 = at-known-told4 .known-told4 .given in
+    let g2 = c .before .before .before .known-told4 .given in
     let f8 : SFits w32 (k .0 .0) = search needs in
     let f9 : SFits w32 (k .0 .1 .0) = search needs in
     λ policy. corners-made policy (a .d) (a .columns) (a .rows) (physicalPart o) (databasePart o) (physicalPart u) (physicalPart v) (databasePart u) (databasePart v) (a .entry) (r .result) (r .ensures policy) (g .0 .0) (g .0 .1 .0) (g .0 .1 .1 .0) (g .1) (t .result) (t .ensures policy) (k .0 .0) (k .0 .1 .0) (k .0 .1 .1 .0) (k .1) _

@@ -51,12 +51,9 @@ met : (c : tie.At-match-came Inv-loop μ-loop) → Turn (c .before .before .befo
     (c .before .before .before .before .before .loop .to) (c .before .before .before .before .before .loop .out) (c .match .to) (c .match .out) (c .match .e)
 unfolding pointAt
 met c =
-    let at-convert-at = c .before .before .before in
-    let at-loop = at-convert-at .before .before in
-    let start = at-loop .before .before .before in
-    let a = start .args in
-    let l = at-loop .loop in
-    let x = at-convert-at .convert-at in
+    let a = c .before .before .before .before .before .before .before .before .args in
+    let l = c .before .before .before .before .before .loop in
+    let x = c .before .before .before .convert-at in
     let y = c .before .before .convert-at2 in
     let p = c .before .plain-point in
     ⊎-elim
@@ -79,17 +76,12 @@ met c =
 never : {X : Type 0} (c : tie.After-enum-told2 Inv-loop μ-loop) → X
 unfolding pointAt
 never c =
-    let at-convert-at2 = c .before .before .before .before .before .before in
-    let at-convert-at = at-convert-at2 .before in
-    let at-loop-test = at-convert-at .before in
-    let at-loop = at-loop-test .before in
-    let start = at-loop .before .before .before in
-    let a = start .args in
-    let l = at-loop .loop in
-    let x = at-convert-at .convert-at in
-    let y = at-convert-at2 .convert-at2 in
+    let a = c .before .before .before .before .before .before .before .before .before .before .before .before .args in
+    let l = c .before .before .before .before .before .before .before .before .before .loop in
+    let x = c .before .before .before .before .before .before .before .convert-at in
+    let y = c .before .before .before .before .before .before .convert-at2 in
     let r = c .before .before .record-point in
-    never-pointed (first-succeeds (a .policy) (a .d) (a .n) (l .i) (a .b .now) (l .at) (at-loop-test .loop-test .taken) (l .inv .accepted) .point)
+    never-pointed (first-succeeds (a .policy) (a .d) (a .n) (l .i) (a .b .now) (l .at) (c .before .before .before .before .before .before .before .before .loop-test .taken) (l .inv .accepted) .point)
     (point-recorded (a .policy) (a .d) (pointAt (a .b .now) (l .at)) (x .result) (y .result) (x .ensures) (y .ensures) 0 (l .i) (l .e) (r .result) (r .ensures)) (c .enum-told2 .given .1)
 
 loop-holds : tie.Need-loop-holds Inv-loop μ-loop
@@ -147,14 +139,11 @@ enum-known-x-2 c = search needs
 
 put-point-requires-2 : tie.Need-put-point-requires-2 Inv-loop μ-loop
 put-point-requires-2 c κs =
-    let at-loop-test = c .before .before .before .before .before .before .before .before .before .before in
-    let at-loop = at-loop-test .before in
-    let start = at-loop .before .before .before in
-    let l = at-loop .loop in
-    let t = at-loop-test .loop-test .taken in
+    let l = c .before .before .before .before .before .before .before .before .before .before .before .loop in
+    let t = c .before .before .before .before .before .before .before .before .before .before .loop-test .taken in
     let i = l .inv .count in
     let j = l .inv .long in
-    let k = start .pre .1 .1 .1 .0 in
+    let k = c .before .before .before .before .before .before .before .before .before .before .before .before .before .before .pre .1 .1 .1 .0 in
     omega arith
 
 add-at : tie.Need-add-at Inv-loop μ-loop
@@ -168,18 +157,15 @@ loop-less c = search needs
 
 loop-again : tie.Need-loop-again Inv-loop μ-loop
 loop-again c =
-    let at-loop-test = c .before .before .before .before in
-    let at-loop = at-loop-test .before in
-    let start = at-loop .before .before .before in
-    let a = start .args in
-    let l = at-loop .loop in
+    let a = c .before .before .before .before .before .before .before .before .args in
+    let l = c .before .before .before .before .before .loop in
     let v = l .inv in
     let m = c .match in
     let t = met c in
     let k : m .e .count ≤ l .e .count + 2 = t .converts .grown in
     let w = t .wrote in
     let j = w .count in
-    let h = at-loop-test .loop-test .taken in
+    let h = c .before .before .before .before .loop-test .taken in
     record {
       within = search needs;
       place = omega arith;

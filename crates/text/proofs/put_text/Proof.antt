@@ -53,17 +53,14 @@ same-length c = search needs
 
 returns-2 : tie.Need-returns-2
 returns-2 c =
-    let at-strans = c .before .before .before .before .before in
-    let at-convert-text = at-strans .before .before in
-    let start = at-convert-text .before .before .before in
-    let a = start .args in
-    let v = at-strans .strans .given in
+    let a = c .before .before .before .before .before .before .before .before .before .before .args in
+    let v = c .before .before .before .before .before .strans .given in
     let x = v .0 .1 .0 in
     let y = v .0 .1 .1 .0 in
     let f : SFits w32 x = search needs in
     let h : SFits w32 y = search needs in
     let p = same-point (a .b .now) (a .text) (v .0 .0) x y _ _ (toZ-ofZ w32 x f) (toZ-ofZ w32 y h) (c .before .before .put-records-at .ensures) in
-    write-ready (a .entry) _ (readyOf (a .b .now) (a .text) (at-convert-text .convert-text .result)) (is (at-convert-text)) textBytes (textOf (a .b .now) (a .text) (v .0 .0) x y) (v .0 .1 .1 .1 .0) _ (ap (readyOf (a .b .now) (a .text)) (v .1)) (p .wrote)
+    write-ready (a .entry) _ (readyOf (a .b .now) (a .text) (c .before .before .before .before .before .before .before .convert-text .result)) (is (c .before .before .before .before .before .before .before)) textBytes (textOf (a .b .now) (a .text) (v .0 .0) x y) (v .0 .1 .1 .1 .0) _ (ap (readyOf (a .b .now) (a .text)) (v .1)) (p .wrote)
 
 pub put-text-spec : {M : Type 1} → statement M
 put-text-spec =

@@ -82,11 +82,12 @@ pub record PutsElements (policy : GdsRoundingPolicy) (d : Float) (sheet lead out
 
 -- ---- the structure
 
--- the head's, the elements' and an ENDSTR: the sum over all cells of a library fits
+-- the bytes of the head, of the elements and of ENDSTR: their sum over all cells of a library fits
 abbrev pub AnswerSmall : Answer → Type 0
 AnswerSmall (A.Refused r b) = T true
 AnswerSmall (A.Accepted length entries greatest) = (length ≤ 68 + maxPairs * (84 + 4 * maxSheetLength)) × (entries ≤ maxPairs)
 
+-- the sheet is accepted, and there is room for its structure and its entries, each after its lead
 pub record StructureFits (policy : GdsRoundingPolicy) (d : Float) (sheet lead : List ℕ) (out report : ℕ) : Type 0 where
   pub structure : Structure
   pub entries : List Entry
@@ -94,6 +95,7 @@ pub record StructureFits (policy : GdsRoundingPolicy) (d : Float) (sheet lead : 
   pub out-room : length (structureBytes structure) ≤ out
   pub report-room : length (reportWith lead entries) ≤ report
 
+-- then both are written at the start of the part that is lent, and nothing else; r says where they end
 pub record PutsStructure (policy : GdsRoundingPolicy) (d : Float) (sheet lead out report out′ report′ : List ℕ) (r : Ends) : Type 0 where
   pub output : (s : Structure) (es : List Entry) → writeSheet policy d sheet ≡ written s es → Wrote (structureBytes s) out out′ (r .out)
   pub entries : (s : Structure) (es : List Entry) → writeSheet policy d sheet ≡ written s es → Wrote (reportWith lead es) report report′ (r .report)
