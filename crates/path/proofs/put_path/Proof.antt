@@ -93,23 +93,17 @@ same-length c =
 returns-2 : tie.Need-returns-2
 unfolding pathAt
 returns-2 c =
-    let at-put-head = c .before .before .before .before .before .before in
-    let at-has-path-type = at-put-head .before .before in
-    let at-known-told = at-has-path-type .before in
-    let at-wide = at-known-told .before in
-    let at-convert-lengths = at-wide .before .before in
-    let start = at-convert-lengths .before .before .before in
-    let a = start .args in
+    let a = c .before .before .before .before .before .before .before .before .before .before .before .before .before .before .before .args in
     let p = pathAt (a .b .now) (a .path) in
-    let g = at-wide .wide .given in
-    let z = at-known-told .known-told .given in
+    let g = c .before .before .before .before .before .before .before .before .before .before .wide .given in
+    let z = c .before .before .before .before .before .before .before .before .before .known-told .given in
     let f1 : SFits w32 (g .0 .1 .0) = search needs in
     let f2 : SFits w32 (g .0 .1 .1 .1 .0) = search needs in
     let f3 : SFits w32 (g .0 .1 .1 .1 .1 .1 .0) = search needs in
     let l = length-from (a .path .count) (a .b .now) (a .path .points) in
-    path-written (a .policy) (a .d) p (a .entry) (at-convert-lengths .convert-lengths .result) (front (at-convert-lengths)) (g .0 .0) (g .0 .1 .0) (g .0 .1 .1 .0) (g .0 .1 .1 .1 .0) (g .0 .1 .1 .1 .1 .0) (g .0 .1 .1 .1 .1 .1 .0) (g .0 .1 .1 .1 .1 .1 .1 .0) (g .1)
-    _ (ap (λ (t : Bool). optionOf t (a .path .pathtype)) (at-has-path-type .has-path-type .ensures) ∙ type-back (a .path .pathtype)) (a .path .count) (sym l)
-    _ _ _ (toZ-ofZ w32 (g .0 .1 .0) f1) (toZ-ofZ w32 (g .0 .1 .1 .1 .0) f2) (toZ-ofZ w32 (g .0 .1 .1 .1 .1 .1 .0) f3) _ _ _ _ _ (at-put-head .put-head .ensures) _ _ (c .before .before .put-points .ensures)
+    path-written (a .policy) (a .d) p (a .entry) (c .before .before .before .before .before .before .before .before .before .before .before .before .convert-lengths .result) (front (c .before .before .before .before .before .before .before .before .before .before .before .before)) (g .0 .0) (g .0 .1 .0) (g .0 .1 .1 .0) (g .0 .1 .1 .1 .0) (g .0 .1 .1 .1 .1 .0) (g .0 .1 .1 .1 .1 .1 .0) (g .0 .1 .1 .1 .1 .1 .1 .0) (g .1)
+    _ (ap (λ (t : Bool). optionOf t (a .path .pathtype)) (c .before .before .before .before .before .before .before .before .has-path-type .ensures) ∙ type-back (a .path .pathtype)) (a .path .count) (sym l)
+    _ _ _ (toZ-ofZ w32 (g .0 .1 .0) f1) (toZ-ofZ w32 (g .0 .1 .1 .1 .0) f2) (toZ-ofZ w32 (g .0 .1 .1 .1 .1 .1 .0) f3) _ _ _ _ _ (c .before .before .before .before .before .before .put-head .ensures) _ _ (c .before .before .put-points .ensures)
 
 pub put-path-spec : {M : Type 1} → statement M
 put-path-spec =

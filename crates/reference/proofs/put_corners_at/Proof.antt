@@ -58,19 +58,15 @@ same-length c =
 
 returns : tie.Need-returns
 returns c =
-    let at-put-point2 = c .before .before .before .before .before .before .before .before in
-    let at-put-point = at-put-point2 .before .before .before .before .before .before in
-    let at-put-head-at = at-put-point .before .before .before .before .before .before in
-    let start = at-put-head-at .before .before .before in
-    let k = start .args .c in
-    let gk = start .good .1 .1 .0 in
+    let k = c .before .before .before .before .before .before .before .before .before .before .before .before .before .before .before .before .before .before .before .before .before .before .before .args .c in
+    let gk = c .before .before .before .before .before .before .before .before .before .before .before .before .before .before .before .before .before .before .before .before .before .before .before .good .1 .1 .0 in
     let fx0 : SFits w32 (k .x0) = search needs in
     let fy0 : SFits w32 (k .y0) = search needs in
     let fx1 : SFits w32 (k .x1) = search needs in
     let fy1 : SFits w32 (k .y1) = search needs in
     let fx2 : SFits w32 (k .x2) = search needs in
     let fy2 : SFits w32 (k .y2) = search needs in
-    corners-placed k (at-put-head-at .put-head-at .ensures .wrote) (same-point (toZ-ofZ w32 (k .x0) fx0) (toZ-ofZ w32 (k .y0) fy0) (at-put-point .put-point .ensures)) (same-point (toZ-ofZ w32 (k .x1) fx1) (toZ-ofZ w32 (k .y1) fy1) (at-put-point2 .put-point2 .ensures)) (same-point (toZ-ofZ w32 (k .x2) fx2) (toZ-ofZ w32 (k .y2) fy2) (c .before .before .put-point3 .ensures))
+    corners-placed k (c .before .before .before .before .before .before .before .before .before .before .before .before .before .before .before .before .before .before .before .before .put-head-at .ensures .wrote) (same-point (toZ-ofZ w32 (k .x0) fx0) (toZ-ofZ w32 (k .y0) fy0) (c .before .before .before .before .before .before .before .before .before .before .before .before .before .before .put-point .ensures)) (same-point (toZ-ofZ w32 (k .x1) fx1) (toZ-ofZ w32 (k .y1) fy1) (c .before .before .before .before .before .before .before .before .put-point2 .ensures)) (same-point (toZ-ofZ w32 (k .x2) fx2) (toZ-ofZ w32 (k .y2) fy2) (c .before .before .put-point3 .ensures))
 
 pub put-corners-at-spec : {M : Type 1} → statement M
 put-corners-at-spec =

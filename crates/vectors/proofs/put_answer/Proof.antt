@@ -65,9 +65,7 @@ put-bytes-at-requires c κs =
 
 mul-report : tie.Need-mul-report
 mul-report c =
-    let at-length = c .before .before .before .before .before .before .before .before .before .before .before in
-    let at-write-cell = at-length .before .before .before .before in
-    let h = writes-room (at-write-cell .write-cell .ensures) (at-length .length .given .1) in
+    let h = writes-room (c .before .before .before .before .before .before .before .before .before .before .before .before .before .before .before .write-cell .ensures) (c .before .before .before .before .before .before .before .before .before .before .before .length .given .1) in
     search needs
 
 array-share-prefix-report : tie.Need-array-share-prefix-report

@@ -104,21 +104,15 @@ enum-known-m c = search needs
 
 add-length : tie.Need-add-length Inv-loop μ-loop
 add-length c =
-    let at-measure-element = c .before .before .before in
-    let at-block = at-measure-element .before in
-    let at-loop-test = at-block .before in
-    let at-loop = at-loop-test .before in
-    let at-u32-at = at-loop .before in
-    let earlier = at-u32-at .before .before in
-    let s = earlier in
-    let l = at-loop .loop in
+    let s = c .before .before .before .before .before .before .before .before .before in
+    let l = c .before .before .before .before .before .before .loop in
     let v = l .inv in
-    let r = at-measure-element .measure-element in
+    let r = c .before .before .before .measure-element in
     let g = c .before .m .given in
-    let b = block-short (s .args .sheet .now) (l .k) (at-block .block .result .now) (r .result) (g .0 .0) (g .0 .1 .0) (s .pre .0) (at-block .block .ensures) (r .ensures .1) (g .1) in
+    let b = block-short (s .args .sheet .now) (l .k) (c .before .before .before .before .block .result .now) (r .result) (g .0 .0) (g .0 .1 .0) (s .pre .0) (c .before .before .before .before .block .ensures) (r .ensures .1) (g .1) in
     let p = pairs-count (s .args .sheet .now) (s .pre .1) in
-    let e = at-u32-at .u32-at .ensures in
-    let t = at-loop-test .loop-test .taken in
+    let e = c .before .before .before .before .before .before .before .u32-at .ensures in
+    let t = c .before .before .before .before .before .loop-test .taken in
     search needs
 
 entries-of-requires : tie.Need-entries-of-requires Inv-loop μ-loop
@@ -126,13 +120,10 @@ entries-of-requires c κs = search needs
 
 add-entries : tie.Need-add-entries Inv-loop μ-loop
 add-entries c =
-    let at-loop = c .before .before .before .before .before .before .before in
-    let at-u32-at = at-loop .before in
-    let earlier = at-u32-at .before .before in
-    let s = earlier in
-    let v = at-loop .loop .inv in
+    let s = c .before .before .before .before .before .before .before .before .before .before in
+    let v = c .before .before .before .before .before .before .before .loop .inv in
     let p = pairs-count (s .args .sheet .now) (s .pre .1) in
-    let e = at-u32-at .u32-at .ensures in
+    let e = c .before .before .before .before .before .before .before .before .u32-at .ensures in
     let o = stands-once (c .before .before .m .given .0 .1 .0) in
     let f = c .entries-of .ensures in
     search needs
