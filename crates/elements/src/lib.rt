@@ -12,6 +12,7 @@ ghost use Prim.Native.Nat.{_≤_};
 ghost use lib.ListN.{length};
 ghost use Rattle.sheet.specs.Element.{kindOf, elementOf};
 ghost use Rattle.stream.specs.Records.{elementBytes};
+ghost use Rattle.cell.specs.Limits.{maxSheetLength};
 ghost use Rattle.cell.specs.Write.{writeBody, writeElement};
 ghost use Rattle.forms.specs.code.Forms.{bodyAt, propertiesAt, BodyIn, ElementIn};
 ghost use Rattle.writing.specs.code.Steps.{Measures, Succeeds, Writes};
@@ -79,7 +80,7 @@ fn measure_parts(
     properties: PropertyPlaces,
     entry: Entry,
 ) -> Measured
-    requires { ⌜ length (now b) ≤ 16777216 ⌝ }
+    requires { ⌜ length (now b) ≤ maxSheetLength ⌝ }
     requires { ⌜ ElementIn (now b) body properties ⌝ }
     requires { ⌜ entry .count ≤ 13 ⌝ }
     ensures { λ r. ⌜ Measures elementBytes entry (writeElement policy d (record { body = bodyAt (now (b .entry)) body; properties = propertiesAt (now (b .entry)) properties })) r ⌝ }
@@ -110,7 +111,7 @@ fn measure_parts(
 
 // The block's form first.
 pub fn measure_element(policy: GdsRoundingPolicy, d: f64, b: &[u8], index: u32) -> Measured
-    requires { ⌜ length (now b) ≤ 16777216 ⌝ }
+    requires { ⌜ length (now b) ≤ maxSheetLength ⌝ }
     ensures { λ r. ⌜ r ≡ measuredBlock policy d index (elementOf (now (b .entry))) ⌝ }
     ensures { λ r. ⌜ Short (length (now (b .entry))) r ⌝ }
 {

@@ -6,6 +6,7 @@ ghost use Prim.Native.Nat.{_+_, _*_, _≤_, _<_};
 ghost use lib.ListN.{length};
 ghost use Rattle.stream.specs.Record.{streamBytes};
 ghost use Rattle.conversion.specs.Points.{writeLength};
+ghost use Rattle.cell.specs.Limits.{maxPoints};
 ghost use Rattle.cell.specs.Write.{isSome, writePath};
 ghost use Rattle.records.specs.code.Bytes.{Placed, optionOf};
 ghost use Rattle.writing.specs.code.Steps.{Measures, Succeeds, Writes};
@@ -288,7 +289,7 @@ fn put_head(
     ended: bool,
     end: i32,
 ) -> usize
-    requires { ⌜ path .count ≤ 8191 ⌝ }
+    requires { ⌜ path .count ≤ maxPoints ⌝ }
     requires { ⌜ at + headLength typed wide begun ended ≤ length (now out) ⌝ }
     ensures { λ r. ⌜ Placed (pathHead (path .layer) (path .datatype) (optionOf typed (path .pathtype)) (extent wide width begun begin ended end) (path .count)) (headLength typed wide begun ended) (now (out .entry)) (now (out .exit)) at r ⌝ }
 {

@@ -12,6 +12,7 @@ ghost use Rattle.stream.specs.Records.{pointsBytes};
 ghost use Rattle.writing.specs.code.Steps.{Succeeds, Writes};
 ghost use Rattle.forms.specs.code.Place.{pointsFrom};
 ghost use Rattle.points.specs.declared.Walked.the-variants as W;
+ghost use Rattle.cell.specs.Limits.{maxPoints};
 ghost use Rattle.points.specs.code.Integers.{integerAt, integersFrom, AllPass};
 ghost use Rattle.points.specs.code.Walk.{through, walked};
 use conversion::Entry;
@@ -134,7 +135,7 @@ fn measure_rest(
 ) -> Walked
     requires { ⌜ from + 34 * n ≤ length (now b) + 34 ⌝ }
     requires { ⌜ 1 ≤ n ⌝ }
-    requires { ⌜ n ≤ 8191 ⌝ }
+    requires { ⌜ n ≤ maxPoints ⌝ }
     requires { ⌜ entry .count ≤ 18 ⌝ }
     ensures { λ r. ⌜ r ≡ run W.Refused entry (writePoints policy d 1 (pointsFrom (n - 1) (now (b .entry)) from)) (through (record { x = x0; y = y0 }) (record { x = x0; y = y0 })) ⌝ }
 {
@@ -185,7 +186,7 @@ pub fn measure_points(
 ) -> Walked
     requires { ⌜ from + 34 * n ≤ length (now b) ⌝ }
     requires { ⌜ 1 ≤ n ⌝ }
-    requires { ⌜ n ≤ 8191 ⌝ }
+    requires { ⌜ n ≤ maxPoints ⌝ }
     requires { ⌜ entry .count ≤ 16 ⌝ }
     ensures { λ r. ⌜ r ≡ run W.Refused entry (writePoints policy d 0 (pointsFrom n (now (b .entry)) from)) walked ⌝ }
 {
@@ -212,7 +213,7 @@ fn put_converted(
     entry: Entry,
 ) -> Written
     requires { ⌜ from + 34 * n ≤ length (now b) ⌝ }
-    requires { ⌜ n ≤ 8191 ⌝ }
+    requires { ⌜ n ≤ maxPoints ⌝ }
     requires { ⌜ Succeeds (writePoints policy d 0 (pointsFrom n (now b) from)) ⌝ }
     requires { ⌜ start + 8 * n ≤ length (now out) ⌝ }
     requires { ⌜ entry .count ≤ 16 ⌝ }
@@ -258,7 +259,7 @@ pub fn put_points(
     entry: Entry,
 ) -> Written
     requires { ⌜ from + 34 * n ≤ length (now b) ⌝ }
-    requires { ⌜ n ≤ 8191 ⌝ }
+    requires { ⌜ n ≤ maxPoints ⌝ }
     requires { ⌜ Succeeds (writePoints policy d 0 (pointsFrom n (now b) from)) ⌝ }
     requires { ⌜ start + 8 * n ≤ length (now out) ⌝ }
     requires { ⌜ entry .count ≤ 16 ⌝ }

@@ -3,6 +3,7 @@ ghost use mathlib.Core.Path.{_≡_};
 ghost use Prim.Native.Nat.{_+_, _%_, _≤_};
 ghost use lib.ListN.{length};
 ghost use Rattle.big_endian.specs.Big.{numberAt};
+ghost use Rattle.cell.specs.Limits.{maxSheetLength, maxValueLength};
 ghost use Rattle.cell.specs.Write.{writeProperties};
 ghost use Rattle.forms.specs.code.Place.{placeFrom, propertyAt, propertyEnd, propertiesFrom};
 ghost use Rattle.records.specs.code.Bytes.{Placed};
@@ -26,7 +27,7 @@ fn value_length(b: &[u8], at: usize) -> usize
 
 // The first value that is too long, or the length of all records to the ENDEL.
 pub fn measure_tail(b: &[u8], from: usize, n: usize, entry: Entry) -> Measured
-    requires { ⌜ length (now b) ≤ 16777216 ⌝ }
+    requires { ⌜ length (now b) ≤ maxSheetLength ⌝ }
     requires { ⌜ placeFrom propertyEnd n (now b) from ≤ length (now b) ⌝ }
     ensures { λ r. ⌜ Measures tailBytes entry (writeProperties (propertiesFrom n (now (b .entry)) from)) r ⌝ }
 {
@@ -53,7 +54,7 @@ pub fn measure_tail(b: &[u8], from: usize, n: usize, entry: Entry) -> Measured
 // PROPATTR and PROPVALUE of the property at a place of the block.
 fn put_property_at(out: &mut [u8], to: usize, b: &[u8], at: usize, m: usize) -> usize
     requires { ⌜ m ≡ numberAt 2 (now b) (at + 2) ⌝ }
-    requires { ⌜ m ≤ 65530 ⌝ }
+    requires { ⌜ m ≤ maxValueLength ⌝ }
     requires { ⌜ at + 4 + m ≤ length (now b) ⌝ }
     requires { ⌜ to + (10 + (m + m % 2)) ≤ length (now out) ⌝ }
     ensures { λ r. ⌜ Placed (propertyBytes (said (propertyAt (now (b .entry)) at))) (10 + (m + m % 2)) (now (out .entry)) (now (out .exit)) to r ⌝ }

@@ -3,6 +3,7 @@ ghost use mathlib.Core.Path.{_≡_};
 ghost use Prim.Native.Nat.{_+_, _*_, _≤_};
 ghost use lib.ListN.{length};
 ghost use Rattle.conversion.specs.code.Fold.{run};
+ghost use Rattle.cell.specs.Limits.{maxPoints};
 ghost use Rattle.cell.specs.Write.{samePoint, writeShape, writePolygon, writeNode};
 ghost use Rattle.records.specs.code.Bytes.{Placed};
 ghost use Rattle.writing.specs.code.Steps.{Measures, Succeeds, Writes};
@@ -98,7 +99,7 @@ fn measure_shape(
 ) -> Walked
     requires { ⌜ ShapeIn (now b) places ⌝ }
     requires { ⌜ 1 ≤ least ⌝ }
-    requires { ⌜ most ≤ 8191 ⌝ }
+    requires { ⌜ most ≤ maxPoints ⌝ }
     requires { ⌜ entry .count ≤ 16 ⌝ }
     ensures { λ r. ⌜ r ≡ run W.Refused entry (writeShape policy d least most (shapeAt (now (b .entry)) places)) shapeEnds ⌝ }
 {
@@ -210,7 +211,7 @@ fn put_shape(
     entry: Entry,
 ) -> Written
     requires { ⌜ ShapeIn (now b) places ⌝ }
-    requires { ⌜ places .count ≤ 8191 ⌝ }
+    requires { ⌜ places .count ≤ maxPoints ⌝ }
     requires { ⌜ Succeeds (afterChecks policy d (shapeAt (now b) places)) ⌝ }
     requires { ⌜ start + (20 + 8 * places .count) ≤ length (now out) ⌝ }
     requires { ⌜ entry .count ≤ 16 ⌝ }

@@ -4,6 +4,7 @@ ghost use Prim.Native.Nat.{_+_, _*_, _≤_, _<_};
 ghost use lib.ListN.{length};
 ghost use Rattle.big_endian.specs.Big.{numberAt};
 ghost use Rattle.conversion.specs.code.Fold.{run};
+ghost use Rattle.cell.specs.Limits.{maxStringLength};
 ghost use Rattle.cell.specs.Write.{writeText};
 ghost use Rattle.forms.specs.code.Place.{stringEnd};
 ghost use Rattle.forms.specs.code.Forms.{textAt, TextIn};
@@ -162,7 +163,7 @@ fn put_records_at(
     y: i32,
 ) -> usize
     requires { ⌜ stringEnd (now b) (text .string) ≤ length (now b) ⌝ }
-    requires { ⌜ numberAt 2 (now b) (text .string) ≤ 512 ⌝ }
+    requires { ⌜ numberAt 2 (now b) (text .string) ≤ maxStringLength ⌝ }
     requires { ⌜ at + sizeOf (stransLength strans) (numberAt 2 (now b) (text .string)) ≤ length (now out) ⌝ }
     ensures { λ r. ⌜ Placed (textBytes (textOf (now (b .entry)) text strans x y)) (sizeOf (stransLength strans) (numberAt 2 (now (b .entry)) (text .string))) (now (out .entry)) (now (out .exit)) at r ⌝ }
 {

@@ -19,6 +19,7 @@ ghost use Rattle.sheet.specs.Blocks.{pairsFit};
 ghost use Rattle.sheet.specs.Cell.{elementBlocks};
 ghost use Rattle.forms.specs.code.Place.{stringAt};
 ghost use Rattle.forms.specs.code.Forms.{headAt, HeadIn};
+ghost use Rattle.cell.specs.Limits.{maxNameLength, maxSheetLength};
 ghost use Rattle.cell.specs.Cell.{writeBlocks, writeSheet};
 ghost use Rattle.cell.specs.Answer.{answerOf};
 ghost use Rattle.walk.specs.code.Walk.{headBytes, headMeasured, HeadSmall, totalsFrom, TotalsSmall, ElementsFit, PutsElements, AnswerSmall, StructureFits, PutsStructure};
@@ -114,7 +115,7 @@ fn greater_error(g: f64, entry: Entry) -> f64
 
 // Every block after the head, in turn.
 fn measure_elements(policy: GdsRoundingPolicy, d: f64, sheet: &[u8]) -> Totals
-    requires { ⌜ length (now sheet) ≤ 16777216 ⌝ }
+    requires { ⌜ length (now sheet) ≤ maxSheetLength ⌝ }
     requires { ⌜ T (pairsFit (now sheet)) ⌝ }
     ensures { λ r. ⌜ r ≡ totalsFrom 0 0 zero64 (writeBlocks policy d 0 (elementBlocks (now (sheet .entry)))) ⌝ }
     ensures { λ r. ⌜ TotalsSmall r ⌝ }
@@ -148,7 +149,7 @@ fn measure_elements(policy: GdsRoundingPolicy, d: f64, sheet: &[u8]) -> Totals
 
 // The cell from its 4 on.
 pub fn measure_sheet(policy: GdsRoundingPolicy, d: f64, sheet: &[u8]) -> Answer
-    requires { ⌜ length (now sheet) ≤ 16777216 ⌝ }
+    requires { ⌜ length (now sheet) ≤ maxSheetLength ⌝ }
     ensures { λ r. ⌜ r ≡ answerOf (writeSheet policy d (now (sheet .entry))) ⌝ }
     ensures { λ r. ⌜ AnswerSmall r ⌝ }
 {
@@ -186,7 +187,7 @@ pub fn measure_sheet(policy: GdsRoundingPolicy, d: f64, sheet: &[u8]) -> Answer
 // BGNSTR, whose data are the block's own 24 bytes, and STRNAME, at the start of the output; the place after them.
 fn put_head(b: &[u8], places: HeadPlaces, out: &mut [u8]) -> usize
     requires { ⌜ HeadIn (now b) places ⌝ }
-    requires { ⌜ length (stringAt (now b) (places .name)) ≤ 32 ⌝ }
+    requires { ⌜ length (stringAt (now b) (places .name)) ≤ maxNameLength ⌝ }
     requires { ⌜ length (headBytes (headAt (now b) places)) ≤ length (now out) ⌝ }
     ensures { λ r. ⌜ WroteAt (headBytes (headAt (now (b .entry)) places)) (now (out .entry)) (now (out .exit)) 0 r ⌝ }
 {

@@ -5,6 +5,7 @@ use refusal::Refusal;
 use validation::Called;
 ghost use Prim.Native.Nat.{_≤_};
 ghost use lib.ListN.{length};
+ghost use Rattle.cell.specs.Limits.{maxSheetLength};
 ghost use Rattle.cell.specs.Answer.{valuesOf};
 ghost use Rattle.write.specs.Writer.{MeasuresCell, WritesCell};
 ghost use Rattle.write.specs.code.Sheet.{WritesSheet};
@@ -30,7 +31,7 @@ fn write_sheet(
     out: &mut [u8],
     report: &mut [u8],
 ) -> Answer
-    requires { ⌜ length (now sheet) ≤ 16777216 ⌝ }
+    requires { ⌜ length (now sheet) ≤ maxSheetLength ⌝ }
     ensures { λ r. ⌜ WritesSheet rounding d (now (sheet .entry)) (now (out .entry)) (now (report .entry)) (now (out .exit)) (now (report .exit)) r ⌝ }
 {
     match walk::measure_sheet(rounding, d, sheet) {
