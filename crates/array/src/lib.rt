@@ -6,7 +6,7 @@ ghost use Rattle.conversion.specs.declared.GdsRoundingPolicy as Policy;
 ghost use Rattle.conversion.specs.code.Answer.{pointOf};
 ghost use Rattle.conversion.specs.Array.{physicalPoint, physicalSpacing, writePhysical, writeEndpoint, convertArray};
 ghost use Rattle.conversion.specs.code.Fold.{run};
-ghost use Rattle.forms.specs.code.Place.{pointAt, spacingAt};
+ghost use Rattle.forms.specs.code.Place.{pointAt, spacingAt, pointLength};
 ghost use Rattle.forms.specs.code.Forms.{ReferenceIn};
 ghost use Rattle.array.specs.declared.Array.the-variants as Answer;
 ghost use Rattle.array.specs.code.Corners.{physicalsOf, physicalPart, databasePart, Converts, endOf, Ends, cornered, afterSteps, afterSpacings, afterOrigin};
@@ -61,7 +61,7 @@ pub enum Array {
 
 // Those of the point at a place of the block, x before y.
 fn physical_point(b: &[u8], at: usize) -> Physical
-    requires { ⌜ at + 34 ≤ length (now b) ⌝ }
+    requires { ⌜ at + pointLength ≤ length (now b) ⌝ }
     ensures { λ r. ⌜ physicalsOf r ≡ physicalPoint (pointAt (now (b .entry)) at) ⌝ }
 {
     match conversion::physical_value(forms::unit_at(b, at)) {
@@ -81,7 +81,7 @@ fn physical_point(b: &[u8], at: usize) -> Physical
 
 // Those of a spacing: zero where it is absent.
 fn physical_spacing(b: &[u8], at: usize) -> Physical
-    requires { ⌜ at + 34 ≤ length (now b) ⌝ }
+    requires { ⌜ at + pointLength ≤ length (now b) ⌝ }
     ensures { λ r. ⌜ physicalsOf r ≡ physicalSpacing (spacingAt (now (b .entry)) at) ⌝ }
 {
     if forms::is_absent(b, at) {

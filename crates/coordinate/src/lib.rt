@@ -9,7 +9,7 @@ ghost use Rattle.conversion.specs.Convert.{Spot, convertUnit};
 ghost use Rattle.conversion.specs.Points.{spot, writePoint};
 ghost use Rattle.stream.specs.Records.{longBytes, xyRecord};
 ghost use Rattle.records.specs.code.Bytes.{Recorded};
-ghost use Rattle.forms.specs.code.Place.{unitAt, pointAt};
+ghost use Rattle.forms.specs.code.Place.{unitAt, pointAt, coordinateLength, pointLength};
 ghost use Rattle.coordinate.specs.code.Coordinate.{Values, Converts, both, plainOf};
 use conversion::Conversion;
 use conversion::Deviation;
@@ -66,7 +66,7 @@ pub fn record_quantization(c: Conversion, field: u8, axis: u8, place: u16, entry
 
 // The coordinate at a place of the block, to the grid.
 pub fn convert_at(policy: GdsRoundingPolicy, d: f64, b: &[u8], at: usize) -> Conversion
-    requires { ⌜ at + 17 ≤ length (now b) ⌝ }
+    requires { ⌜ at + coordinateLength ≤ length (now b) ⌝ }
     ensures { λ r. ⌜ ((s : Spot) → outcome s r ≡ convertUnit policy d s (unitAt (now (b .entry)) at)) ⌝ }
 {
     conversion::convert_unit(policy, d, forms::unit_at(b, at))
@@ -83,7 +83,7 @@ pub fn convert_coordinate(
     place: u16,
     entry: Entry,
 ) -> Valued
-    requires { ⌜ at + 17 ≤ length (now b) ⌝ }
+    requires { ⌜ at + coordinateLength ≤ length (now b) ⌝ }
     requires { ⌜ entry .count < 4294967295 ⌝ }
     ensures { λ r. ⌜ Values entry (convertUnit policy d (spot field axis place) (unitAt (now (b .entry)) at)) r ⌝ }
 {
@@ -133,7 +133,7 @@ pub fn convert_point(
     place: u16,
     entry: Entry,
 ) -> Pointed
-    requires { ⌜ at + 34 ≤ length (now b) ⌝ }
+    requires { ⌜ at + pointLength ≤ length (now b) ⌝ }
     requires { ⌜ entry .count < 4294967294 ⌝ }
     ensures { λ r. ⌜ Converts entry (writePoint policy d field place (pointAt (now (b .entry)) at)) r ⌝ }
 {

@@ -8,7 +8,7 @@ ghost use Rattle.big_endian.specs.Big.{numberAt};
 ghost use Rattle.parsing.specs.Parse.{times};
 ghost use Rattle.sheet.specs.Form as Form;
 ghost use Rattle.sheet.specs.Element as Element;
-ghost use Rattle.forms.specs.code.Place.{doubleAt, unitAt, coordinateAt, pointAt, pointsFrom, spacingAt, stringAt, stringEnd};
+ghost use Rattle.forms.specs.code.Place.{doubleAt, unitAt, coordinateAt, pointAt, pointsFrom, spacingAt, stringAt, stringEnd, coordinateLength, pointLength};
 ghost use Rattle.forms.specs.code.Forms.{pathTypeOf, referencePlaces};
 ghost use Rattle.forms.specs.code.Checks.{given, Checked, PropertiesRead, BodyRead, HeadRead, ElementRead};
 
@@ -232,7 +232,7 @@ fn double(b: &[u8], at: usize) -> f64
 
 // The coordinate at a place, where it is not absent. Its value bytes are read at once, whatever its kind; an integer is the lower four of them.
 pub fn unit_at(b: &[u8], at: usize) -> units::Unit
-    requires { ⌜ at + 17 ≤ length (now b) ⌝ }
+    requires { ⌜ at + coordinateLength ≤ length (now b) ⌝ }
     ensures { λ r. ⌜ r ≡ unitAt (now (b .entry)) at ⌝ }
 {
     let raw = big_endian::u64_at(b, at + VALUE);
@@ -283,7 +283,7 @@ fn code(b: &[u8], at: usize, most: u8) -> bool
 
 // A coordinate, which may be absent: then 16 zero bytes follow its kind.
 fn coordinate(b: &[u8], at: usize) -> bool
-    requires { ⌜ at + 17 ≤ length (now b) ⌝ }
+    requires { ⌜ at + coordinateLength ≤ length (now b) ⌝ }
     ensures { λ r. ⌜ Checked Form.coordinate (now (b .entry)) at (coordinateAt (now (b .entry)) at) (at + 17) r ⌝ }
 {
     let kind = big_endian::u8_at(b, at);
@@ -301,7 +301,7 @@ fn coordinate(b: &[u8], at: usize) -> bool
 
 // A coordinate that is not absent.
 fn given(b: &[u8], at: usize) -> bool
-    requires { ⌜ at + 17 ≤ length (now b) ⌝ }
+    requires { ⌜ at + coordinateLength ≤ length (now b) ⌝ }
     ensures { λ r. ⌜ Checked given (now (b .entry)) at (unitAt (now (b .entry)) at) (at + 17) r ⌝ }
 {
     if is_absent(b, at) {
@@ -312,7 +312,7 @@ fn given(b: &[u8], at: usize) -> bool
 
 // A point: neither coordinate is absent.
 fn point(b: &[u8], at: usize) -> bool
-    requires { ⌜ at + 34 ≤ length (now b) ⌝ }
+    requires { ⌜ at + pointLength ≤ length (now b) ⌝ }
     ensures { λ r. ⌜ Checked Form.point (now (b .entry)) at (pointAt (now (b .entry)) at) (at + 34) r ⌝ }
 {
     if !given(b, at) {
@@ -323,7 +323,7 @@ fn point(b: &[u8], at: usize) -> bool
 
 // A spacing: both coordinates are absent, or neither.
 fn spacing(b: &[u8], at: usize) -> bool
-    requires { ⌜ at + 34 ≤ length (now b) ⌝ }
+    requires { ⌜ at + pointLength ≤ length (now b) ⌝ }
     ensures { λ r. ⌜ Checked Form.spacing (now (b .entry)) at (spacingAt (now (b .entry)) at) (at + 34) r ⌝ }
 {
     if !coordinate(b, at) {

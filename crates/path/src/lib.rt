@@ -10,7 +10,7 @@ ghost use Rattle.cell.specs.Limits.{maxPoints};
 ghost use Rattle.cell.specs.Write.{isSome, writePath};
 ghost use Rattle.records.specs.code.Bytes.{Placed, optionOf};
 ghost use Rattle.writing.specs.code.Steps.{Measures, Succeeds, Writes};
-ghost use Rattle.forms.specs.code.Place.{coordinateAt};
+ghost use Rattle.forms.specs.code.Place.{coordinateAt, coordinateLength};
 ghost use Rattle.forms.specs.code.Forms.{pathTypeOf, pathAt, PathIn};
 ghost use Rattle.path.specs.code.Front.{extent, writeExtent, writeFront, GivesLength, GivesExtent};
 ghost use Rattle.path.specs.code.Length.{pathBytes, extentRecords, pathHead, extentLength, headLength, HeadSize, pathLength};
@@ -86,7 +86,7 @@ fn convert_length(
     field: u8,
     entry: Entry,
 ) -> Length
-    requires { ⌜ at + 17 ≤ length (now b) ⌝ }
+    requires { ⌜ at + coordinateLength ≤ length (now b) ⌝ }
     requires { ⌜ entry .count < 4294967295 ⌝ }
     ensures { λ r. ⌜ GivesLength (isSome (coordinateAt (now (b .entry)) at)) entry (writeLength policy d field (coordinateAt (now (b .entry)) at)) r ⌝ }
 {

@@ -10,7 +10,7 @@ ghost use Rattle.conversion.specs.code.Fold.{run};
 ghost use Rattle.conversion.specs.Points.{writePoints};
 ghost use Rattle.stream.specs.Records.{pointsBytes};
 ghost use Rattle.writing.specs.code.Steps.{Succeeds, Writes};
-ghost use Rattle.forms.specs.code.Place.{pointsFrom};
+ghost use Rattle.forms.specs.code.Place.{pointsFrom, coordinateLength, pointLength};
 ghost use Rattle.points.specs.declared.Walked.the-variants as W;
 ghost use Rattle.cell.specs.Limits.{maxPoints};
 ghost use Rattle.points.specs.code.Integers.{integerAt, integersFrom, AllPass};
@@ -46,7 +46,7 @@ pub enum Walked {
 
 // Whether the coordinate at a place is an integer whose unit has these bits.
 fn in_unit(b: &[u8], at: usize, bits: u64) -> bool
-    requires { ⌜ at + 17 ≤ length (now b) ⌝ }
+    requires { ⌜ at + coordinateLength ≤ length (now b) ⌝ }
     ensures { λ r. ⌜ (r ≡ true → (numberAt 1 (now (b .entry)) at ≡ integerKind) × (numberAt 8 (now (b .entry)) (at + 9) ≡ bits)) ⌝ }
 {
     if big_endian::u8_at(b, at) == forms::INTEGER {
@@ -57,7 +57,7 @@ fn in_unit(b: &[u8], at: usize, bits: u64) -> bool
 
 // Whether n points pass for sure: a unit with the bits of d equals it, unless it is a NaN. Where the answer is no they may still pass.
 fn all_pass(d: f64, b: &[u8], from: usize, n: usize) -> bool
-    requires { ⌜ from + 34 * n ≤ length (now b) ⌝ }
+    requires { ⌜ from + pointLength * n ≤ length (now b) ⌝ }
     ensures { λ r. ⌜ (r ≡ true → AllPass d (now (b .entry)) n from) ⌝ }
 {
     if d != d {
@@ -81,7 +81,7 @@ fn all_pass(d: f64, b: &[u8], from: usize, n: usize) -> bool
 
 // The integer of the coordinate at a place.
 fn integer_at(b: &[u8], at: usize) -> i32
-    requires { ⌜ at + 17 ≤ length (now b) ⌝ }
+    requires { ⌜ at + coordinateLength ≤ length (now b) ⌝ }
     ensures { λ r. ⌜ r ≡ integerAt (now (b .entry)) at ⌝ }
 {
     big_endian::as_i32(big_endian::u32_at(b, at + INTEGER_VALUE))
@@ -89,7 +89,7 @@ fn integer_at(b: &[u8], at: usize) -> i32
 
 // The ends of the points, with the entry as it is.
 fn integer_ends(b: &[u8], from: usize, n: usize, entry: Entry) -> Walked
-    requires { ⌜ from + 34 * n ≤ length (now b) ⌝ }
+    requires { ⌜ from + pointLength * n ≤ length (now b) ⌝ }
     requires { ⌜ 1 ≤ n ⌝ }
     ensures { λ r. ⌜ r ≡ walked (integersFrom n (now (b .entry)) from) entry ⌝ }
 {
@@ -105,7 +105,7 @@ fn integer_ends(b: &[u8], from: usize, n: usize, entry: Entry) -> Walked
 
 // Eight bytes for each point; the place after them.
 fn put_integers(b: &[u8], from: usize, n: usize, out: &mut [u8], start: usize) -> usize
-    requires { ⌜ from + 34 * n ≤ length (now b) ⌝ }
+    requires { ⌜ from + pointLength * n ≤ length (now b) ⌝ }
     requires { ⌜ start + 8 * n ≤ length (now out) ⌝ }
     ensures { λ r. ⌜ WroteAt (pointsBytes (integersFrom n (now (b .entry)) from)) (now (out .entry)) (now (out .exit)) start r ⌝ }
 {
@@ -133,7 +133,7 @@ fn measure_rest(
     y0: i32,
     entry: Entry,
 ) -> Walked
-    requires { ⌜ from + 34 * n ≤ length (now b) + 34 ⌝ }
+    requires { ⌜ from + pointLength * n ≤ length (now b) + pointLength ⌝ }
     requires { ⌜ 1 ≤ n ⌝ }
     requires { ⌜ n ≤ maxPoints ⌝ }
     requires { ⌜ entry .count ≤ 18 ⌝ }
@@ -184,7 +184,7 @@ pub fn measure_points(
     n: usize,
     entry: Entry,
 ) -> Walked
-    requires { ⌜ from + 34 * n ≤ length (now b) ⌝ }
+    requires { ⌜ from + pointLength * n ≤ length (now b) ⌝ }
     requires { ⌜ 1 ≤ n ⌝ }
     requires { ⌜ n ≤ maxPoints ⌝ }
     requires { ⌜ entry .count ≤ 16 ⌝ }
@@ -212,7 +212,7 @@ fn put_converted(
     start: usize,
     entry: Entry,
 ) -> Written
-    requires { ⌜ from + 34 * n ≤ length (now b) ⌝ }
+    requires { ⌜ from + pointLength * n ≤ length (now b) ⌝ }
     requires { ⌜ n ≤ maxPoints ⌝ }
     requires { ⌜ Succeeds (writePoints policy d 0 (pointsFrom n (now b) from)) ⌝ }
     requires { ⌜ start + 8 * n ≤ length (now out) ⌝ }
@@ -258,7 +258,7 @@ pub fn put_points(
     start: usize,
     entry: Entry,
 ) -> Written
-    requires { ⌜ from + 34 * n ≤ length (now b) ⌝ }
+    requires { ⌜ from + pointLength * n ≤ length (now b) ⌝ }
     requires { ⌜ n ≤ maxPoints ⌝ }
     requires { ⌜ Succeeds (writePoints policy d 0 (pointsFrom n (now b) from)) ⌝ }
     requires { ⌜ start + 8 * n ≤ length (now out) ⌝ }

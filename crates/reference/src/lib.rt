@@ -7,7 +7,7 @@ ghost use Rattle.big_endian.specs.Big.{numberAt};
 ghost use Rattle.conversion.specs.code.Fold.{run};
 ghost use Rattle.stream.specs.Records.{xyRecord};
 ghost use Rattle.cell.specs.Write.{inUnit, writeReference};
-ghost use Rattle.forms.specs.code.Place.{stringEnd};
+ghost use Rattle.forms.specs.code.Place.{stringEnd, pointLength};
 ghost use Rattle.forms.specs.code.Forms.{referenceAt, ReferenceIn};
 ghost use Rattle.records.specs.code.Bytes.{Placed, Recorded};
 ghost use Rattle.transform.specs.code.Strans.{saidOf, stransLength};
@@ -65,7 +65,7 @@ pub enum ReferenceValues {
 
 // More than one column or row, without its spacing.
 fn lacks_spacing(b: &[u8], n: u32, at: usize) -> bool
-    requires { ⌜ at + 34 ≤ length (now b) ⌝ }
+    requires { ⌜ at + pointLength ≤ length (now b) ⌝ }
     ensures { λ r. ⌜ r ≡ lacking (now (b .entry)) n at ⌝ }
 {
     if n > 1 {

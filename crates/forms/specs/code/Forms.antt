@@ -20,7 +20,7 @@ use Rattle.forms.specs.declared.HeadForm.{HeadForm}
 use Rattle.forms.specs.declared.HeadForm.the-variants as H
 use Rattle.forms.specs.declared.ElementForm.{ElementForm}
 use Rattle.forms.specs.declared.ElementForm.the-variants as E
-use Rattle.forms.specs.code.Place.{placeFrom, wordsFrom, doubleAt, coordinateAt, pointAt, pointsFrom, spacingAt, stringAt, stringEnd, propertyEnd, propertiesFrom}
+use Rattle.forms.specs.code.Place.{placeFrom, wordsFrom, doubleAt, coordinateAt, pointAt, pointsFrom, spacingAt, stringAt, stringEnd, propertyEnd, propertiesFrom, coordinateLength, pointLength}
 
 -- ---- what the places tell
 
@@ -120,23 +120,23 @@ pub record HeadIn (b : List ℕ) (s : HeadPlaces) : Type 0 where
   pub stamps-in : s .stamps + 24 ≤ length b
 
 pub record ShapeIn (b : List ℕ) (s : ShapePlaces) : Type 0 where
-  pub points-in : s .points + 34 * s .count ≤ length b
+  pub points-in : s .points + pointLength * s .count ≤ length b
 
 pub record PathIn (b : List ℕ) (s : PathPlaces) : Type 0 where
-  pub width-in : s .width + 17 ≤ length b
-  pub begin-in : s .begin + 17 ≤ length b
-  pub end-in : s .end + 17 ≤ length b
-  pub points-in : s .points + 34 * s .count ≤ length b
+  pub width-in : s .width + coordinateLength ≤ length b
+  pub begin-in : s .begin + coordinateLength ≤ length b
+  pub end-in : s .end + coordinateLength ≤ length b
+  pub points-in : s .points + pointLength * s .count ≤ length b
 
 pub record TextIn (b : List ℕ) (s : TextPlaces) : Type 0 where
-  pub origin-in : s .origin + 34 ≤ length b
+  pub origin-in : s .origin + pointLength ≤ length b
   pub string-in : stringEnd b (s .string) ≤ length b
 
 pub record ReferenceIn (b : List ℕ) (s : ReferencePlaces) : Type 0 where
   pub name-in : stringEnd b (s .name) ≤ length b
-  pub origin-in : s .origin + 34 ≤ length b
-  pub column-in : s .column + 34 ≤ length b
-  pub row-in : s .row + 34 ≤ length b
+  pub origin-in : s .origin + pointLength ≤ length b
+  pub column-in : s .column + pointLength ≤ length b
+  pub row-in : s .row + pointLength ≤ length b
 
 abbrev pub BodyIn : List ℕ → BodyPlaces → Type 0
 BodyIn b (B.Polygon s) = ShapeIn b s

@@ -42,6 +42,13 @@ doubleAt b at = ofBits binary64 (numberAt 8 b at)
 
 -- ---- coordinates
 
+-- "17 bytes, a kind, 8 value bytes, then the unit as a double"; a point has two
+abbrev pub coordinateLength : ℕ
+coordinateLength = 17
+
+abbrev pub pointLength : ℕ
+pointLength = 34
+
 -- A coordinate that is not absent, "17 bytes, a kind, 8 value bytes, then the unit as a double": kind 0 is an integer, of the lower four value bytes; any other a double.
 unfoldable pub unitAt : List ℕ → ℕ → Unit
 unitAt b at =
@@ -55,10 +62,10 @@ coordinateAt b at = cond (eqb (numberAt 1 b at) absentKind) none (some (unitAt b
 
 -- "A point is x then y"
 unfoldable pub pointAt : List ℕ → ℕ → Point Unit
-pointAt b at = record { x = unitAt b at; y = unitAt b (at + 17) }
+pointAt b at = record { x = unitAt b at; y = unitAt b (at + coordinateLength) }
 
 abbrev pub pointEnd : List ℕ → ℕ → ℕ
-pointEnd b at = at + 34
+pointEnd b at = at + pointLength
 
 abbrev pub pointsFrom : ℕ → List ℕ → ℕ → List (Point Unit)
 pointsFrom = valuesFrom pointAt pointEnd
