@@ -1,5 +1,5 @@
 #!/usr/bin/env python3
-"""Known results of conversions to the database grid, of lengths within bounds and of pitch surveys, for the program `conversions`.
+"""Known results of conversions to the database grid, of lengths within bounds and of pitch surveys, for the program `test_conversions`.
 
 A model of convert_unit, convert_physical and checked_array_endpoint of gdsr's write/conversion.rs, and of document 02's
 requests 11 and 12. Products, quotients and differences are Python's own, IEEE doubles; rounding to whole numbers is done exactly,

@@ -1,4 +1,4 @@
-// Known results of the arithmetic on doubles, for the program `arithmetic`: C's own fma, round, floor and ceil, on
+// Known results of the arithmetic on doubles, for the program `test_arithmetic`: C's own fma, round, floor and ceil, on
 // cases chosen below. Each case is 33 bytes on standard output: the number of a function, its three operands and its
 // result, as the bit patterns of doubles, the highest byte first. With the argument `text` it writes lines of hex.
 // tools/README.md says how it is built and run.

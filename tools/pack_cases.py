@@ -1,5 +1,5 @@
 #!/usr/bin/env python3
-"""Packs files of stored cases into one binary file for the standard input of the program `vectors`. A convenience, outside the proof.
+"""Packs files of stored cases into one binary file for the standard input of the program `test_vectors`. A convenience, outside the proof.
 
     pack_cases.py [-o PACK] CASES [CASES ...]
 

@@ -30,7 +30,7 @@ use Rattle.conversion.proofs.FoldLaws.{run-pure}
 use Rattle.conversion.proofs.MadeLaws.{refused-on, pure-on}
 use Rattle.sheet.specs.Form.{absentKind}
 use Rattle.forms.specs.code.Place.{pointAt, spacingAt}
-use Rattle.writing.proofs.StepLaws.{run-through}
+use Rattle.steps.proofs.StepLaws.{run-through}
 use Rattle.coordinate.specs.declared.Valued.{Valued}
 use Rattle.coordinate.specs.declared.Valued.the-variants as G
 use Rattle.coordinate.specs.declared.Pointed.the-variants as P

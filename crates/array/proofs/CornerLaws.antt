@@ -19,7 +19,7 @@ use Rattle.conversion.specs.Field.{originField, columnSpacingField, rowSpacingF
 use Rattle.conversion.specs.code.Fold.{notedAll, run}
 use Rattle.conversion.specs.Made.{Made, Done, refused, made, pure, _>>=_, _>>_}
 use Rattle.conversion.proofs.FoldLaws.{run-bind, run-then, run-pure}
-use Rattle.writing.proofs.StepLaws.{run-through}
+use Rattle.steps.proofs.StepLaws.{run-through}
 use Rattle.coordinate.specs.declared.Pointed.{Pointed}
 use Rattle.coordinate.specs.declared.Pointed.the-variants as P
 use Rattle.coordinate.specs.code.Coordinate.{pointed, PointGrown}

@@ -26,7 +26,7 @@ use Rattle.conversion.specs.Made.{Made, pure, _>>=_}
 use Rattle.conversion.specs.Points.{spot, writePoint}
 use Rattle.conversion.proofs.FoldLaws.{noted-count, run-bind, run-pure}
 use Rattle.stream.specs.Records.{longBytes}
-use Rattle.writing.proofs.StepLaws.{run-through}
+use Rattle.steps.proofs.StepLaws.{run-through}
 use Rattle.coordinate.specs.declared.Valued.{Valued}
 use Rattle.coordinate.specs.declared.Valued.the-variants as G
 use Rattle.coordinate.specs.declared.Plain.the-variants as L

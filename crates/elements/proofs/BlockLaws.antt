@@ -15,9 +15,9 @@ use Rattle.sheet.specs.Element.{Element, kindOf, elementOf}
 use Rattle.stream.specs.Structure.{Said}
 use Rattle.stream.specs.Records.{elementBytes}
 use Rattle.cell.specs.Write.{writeElement}
-use Rattle.writing.specs.declared.Measured.{Measured}
-use Rattle.writing.specs.declared.Measured.the-variants as M
-use Rattle.writing.specs.code.Steps.{sizing}
+use Rattle.steps.specs.declared.Measured.{Measured}
+use Rattle.steps.specs.declared.Measured.the-variants as M
+use Rattle.steps.specs.code.Steps.{sizing}
 use Rattle.elements.specs.code.Block.{measuredBlock}
 
 -- ill-formed, refused or written, with what its measuring answers

@@ -9,10 +9,10 @@ use Rattle.conversion.specs.Made.{Made, pure, _>>=_}
 use Rattle.conversion.proofs.MadeLaws.{steps}
 use Rattle.stream.specs.Structure as D
 use Rattle.cell.specs.Write.{writePolygon, writePath, writeText, writeNode, writeReference, writeBody}
-use Rattle.writing.specs.declared.Measured.{Measured}
-use Rattle.writing.specs.declared.Written.{Written}
-use Rattle.writing.specs.code.Steps.{Measures, Succeeds, Writes}
-use Rattle.writing.proofs.StepLaws.{yields, succeeds, measure-wrapped, write-wrapped}
+use Rattle.steps.specs.declared.Measured.{Measured}
+use Rattle.steps.specs.declared.Written.{Written}
+use Rattle.steps.specs.code.Steps.{Measures, Succeeds, Writes}
+use Rattle.steps.proofs.StepLaws.{yields, succeeds, measure-wrapped, write-wrapped}
 use Rattle.forms.specs.declared.ShapePlaces.{ShapePlaces}
 use Rattle.forms.specs.declared.PathPlaces.{PathPlaces}
 use Rattle.forms.specs.declared.TextPlaces.{TextPlaces}
@@ -20,7 +20,7 @@ use Rattle.forms.specs.declared.ReferencePlaces.{ReferencePlaces}
 use Rattle.forms.specs.declared.BodyPlaces.{BodyPlaces}
 use Rattle.forms.specs.declared.BodyPlaces.the-variants as B
 use Rattle.forms.specs.code.Forms.{shapeAt, pathAt, textAt, referenceAt, bodyAt, BodyIn}
-use Rattle.shape.specs.code.Shape.{polygonBytes, nodeBytes}
+use Rattle.polygon_node.specs.code.Shape.{polygonBytes, nodeBytes}
 use Rattle.path.specs.code.Length.{pathBytes}
 use Rattle.text.specs.code.Text.{textBytes}
 use Rattle.reference.specs.code.Reference.{referenceBytes}

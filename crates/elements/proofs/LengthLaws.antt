@@ -26,8 +26,8 @@ use Rattle.forms.specs.code.Forms.{shapeAt, pathAt, bodyAt, BodyIn}
 use Rattle.points.proofs.WalkLaws.{length-from}
 use Rattle.transform.specs.code.Strans.{transformLength}
 use Rattle.transform.proofs.StransLaws.{length-small}
-use Rattle.shape.specs.code.Shape.{polygonBytes, nodeBytes, shapeLength}
-use Rattle.shape.proofs.ShapeLaws.{shape-length}
+use Rattle.polygon_node.specs.code.Shape.{polygonBytes, nodeBytes, shapeLength}
+use Rattle.polygon_node.proofs.ShapeLaws.{shape-length}
 use Rattle.path.specs.code.Length.{pathBytes, pathLength, headLength}
 use Rattle.path.proofs.PathLaws.{path-length}
 use Rattle.text.specs.code.Text.{textBytes, textLength}

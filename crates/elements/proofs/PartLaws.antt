@@ -16,10 +16,10 @@ use Rattle.sheet.specs.Element.{kindOf, elementOf}
 use Rattle.stream.specs.Structure.{Property, SaidBody, Said}
 use Rattle.stream.specs.Records.{elementBytes}
 use Rattle.cell.specs.Write.{writeBody, writeProperties, writeElement}
-use Rattle.writing.specs.declared.Measured.{Measured}
-use Rattle.writing.specs.declared.Measured.the-variants as M
-use Rattle.writing.specs.code.Steps.{sizing, Measures}
-use Rattle.writing.proofs.StepLaws.{measure-first-refused, measure-second-refused, measure-both}
+use Rattle.steps.specs.declared.Measured.{Measured}
+use Rattle.steps.specs.declared.Measured.the-variants as M
+use Rattle.steps.specs.code.Steps.{sizing, Measures}
+use Rattle.steps.proofs.StepLaws.{measure-first-refused, measure-second-refused, measure-both}
 use Rattle.forms.specs.declared.BodyPlaces.{BodyPlaces}
 use Rattle.forms.specs.declared.PropertyPlaces.{PropertyPlaces}
 use Rattle.forms.specs.declared.ElementForm.{ElementForm}

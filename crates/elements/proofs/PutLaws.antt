@@ -15,9 +15,9 @@ use Rattle.sheet.specs.Element.{Element, kindOf}
 use Rattle.stream.specs.Structure as D
 use Rattle.stream.specs.Records.{elementBytes}
 use Rattle.cell.specs.Write.{writeBody, writeProperties, writeElement}
-use Rattle.writing.specs.declared.Written.{Written}
-use Rattle.writing.specs.code.Steps.{Succeeds, Writes}
-use Rattle.writing.proofs.StepLaws.{succeeds, write-both}
+use Rattle.steps.specs.declared.Written.{Written}
+use Rattle.steps.specs.code.Steps.{Succeeds, Writes}
+use Rattle.steps.proofs.StepLaws.{succeeds, write-both}
 use Rattle.forms.specs.declared.BodyPlaces.{BodyPlaces}
 use Rattle.forms.specs.declared.PropertyPlaces.{PropertyPlaces}
 use Rattle.forms.specs.declared.ElementForm.{ElementForm}

@@ -5,8 +5,8 @@ use forms::BodyPlaces;
 use forms::ElementForm;
 use forms::PropertyPlaces;
 use refusal::Refusal;
-use writing::Measured;
-use writing::Written;
+use steps::Measured;
+use steps::Written;
 ghost use mathlib.Core.Path.{_≡_};
 ghost use Prim.Native.Nat.{_≤_};
 ghost use lib.ListN.{length};
@@ -15,7 +15,7 @@ ghost use Rattle.stream.specs.Records.{elementBytes};
 ghost use Rattle.cell.specs.Limits.{maxSheetLength};
 ghost use Rattle.cell.specs.Write.{writeBody, writeElement};
 ghost use Rattle.forms.specs.code.Forms.{bodyAt, propertiesAt, BodyIn, ElementIn};
-ghost use Rattle.writing.specs.code.Steps.{Measures, Succeeds, Writes};
+ghost use Rattle.steps.specs.code.Steps.{Measures, Succeeds, Writes};
 ghost use Rattle.elements.specs.code.Block.{bodyBytes, bodyLength, measuredBlock, Short, Fits, WritesBlock};
 
 // The kinds of the report's entries.
@@ -57,10 +57,10 @@ fn measure_body(
     ensures { λ r. ⌜ Measures bodyBytes entry (writeBody policy d (bodyAt (now (b .entry)) body)) r ⌝ }
 {
     match body {
-        BodyPlaces::Polygon { shape } => shape::measure_polygon(policy, d, b, shape, entry),
+        BodyPlaces::Polygon { shape } => polygon_node::measure_polygon(policy, d, b, shape, entry),
         BodyPlaces::Path { path } => path::measure_path(policy, d, b, path, entry),
         BodyPlaces::Text { text } => text::measure_text(policy, d, b, text, entry),
-        BodyPlaces::Node { shape: node } => shape::measure_node(policy, d, b, node, entry),
+        BodyPlaces::Node { shape: node } => polygon_node::measure_node(policy, d, b, node, entry),
         BodyPlaces::Reference { reference } => reference::measure_reference(
             policy,
             d,
@@ -148,10 +148,26 @@ fn put_body(
     ensures { λ r. ⌜ Writes bodyBytes entry (writeBody policy d (bodyAt (now (b .entry)) body)) 0 (now (part .entry)) (now (part .exit)) r ⌝ }
 {
     match body {
-        BodyPlaces::Polygon { shape } => shape::put_polygon(policy, d, b, shape, part, 0, entry),
+        BodyPlaces::Polygon { shape } => polygon_node::put_polygon(
+            policy,
+            d,
+            b,
+            shape,
+            part,
+            0,
+            entry,
+        ),
         BodyPlaces::Path { path } => path::put_path(policy, d, b, path, part, 0, entry),
         BodyPlaces::Text { text } => text::put_text(policy, d, b, text, part, 0, entry),
-        BodyPlaces::Node { shape: node } => shape::put_node(policy, d, b, node, part, 0, entry),
+        BodyPlaces::Node { shape: node } => polygon_node::put_node(
+            policy,
+            d,
+            b,
+            node,
+            part,
+            0,
+            entry,
+        ),
         BodyPlaces::Reference { reference } => reference::put_reference(
             policy,
             d,

@@ -19,7 +19,7 @@ use Rattle.survey.specs.Survey.{SurveysPitch}
 use Rattle.cell.specs.declared.Answer.{Answer}
 use Rattle.cell.specs.declared.Answer.the-variants as A
 use Rattle.cell.specs.Answer.{Values, valuesOf}
-use Rattle.write.specs.Writer.{MeasuresCell, WritesCell}
+use Rattle.write_cell.specs.Writer.{MeasuresCell, WritesCell}
 
 -- ---- a cell: each case of the answer
 

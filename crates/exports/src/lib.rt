@@ -3,7 +3,7 @@
 // Every place that is lent for an answer is written, also in a refusal.
 ghost use mathlib.Core.Path.{_≡_};
 ghost use Rattle.cell.specs.Answer.{Values, valuesOf};
-ghost use Rattle.write.specs.Writer.{MeasuresCell, WritesCell};
+ghost use Rattle.write_cell.specs.Writer.{MeasuresCell, WritesCell};
 ghost use Rattle.bounds.specs.Bounds.{ConvertsBounds};
 ghost use Rattle.survey.specs.Survey.{SurveysPitch};
 use bounds::RangeAnswer;
@@ -55,7 +55,7 @@ pub extern "C" fn ravenvanity_measure_cell(
 ) -> u8
     ensures { λ r. ⌜ MeasuresCell policy d (now (sheet .entry)) (record { number = r; block = now (block .exit); length = now (length .exit); entries = now (entries .exit); greatest = now (greatest .exit) }) ⌝ }
 {
-    let a = write::measure_cell(policy, d, sheet);
+    let a = write_cell::measure_cell(policy, d, sheet);
     answer_in(a, block, length, entries, greatest)
 }
 
@@ -74,7 +74,7 @@ pub extern "C" fn ravenvanity_write_cell(
 ) -> u8
     ensures { λ r. ⌜ WritesCell policy d (now (sheet .entry)) (now (out .entry)) (now (report .entry)) (now (out .exit)) (now (report .exit)) (record { number = r; block = now (block .exit); length = now (length .exit); entries = now (entries .exit); greatest = now (greatest .exit) }) ⌝ }
 {
-    let a = write::write_cell(policy, d, sheet, out, report);
+    let a = write_cell::write_cell(policy, d, sheet, out, report);
     answer_in(a, block, length, entries, greatest)
 }
 

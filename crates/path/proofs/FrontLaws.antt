@@ -28,10 +28,10 @@ use Rattle.sheet.specs.Form.{absentKind}
 use Rattle.sheet.specs.Element as S
 use Rattle.stream.specs.Structure as D
 use Rattle.records.specs.code.Bytes.{optionOf}
-use Rattle.writing.specs.code.Ready.{Ready, stopped, ready}
-use Rattle.writing.specs.code.Steps.{Succeeds}
-use Rattle.writing.proofs.StepLaws.{yields, succeeds, past-check, past-checks}
-use Rattle.writing.proofs.ReadyLaws.{ready-stops, ready-goes-on, succeeds-as, never-stopped}
+use Rattle.steps.specs.code.Ready.{Ready, stopped, ready}
+use Rattle.steps.specs.code.Steps.{Succeeds}
+use Rattle.steps.proofs.StepLaws.{yields, succeeds, past-check, past-checks}
+use Rattle.steps.proofs.ReadyLaws.{ready-stops, ready-goes-on, succeeds-as, never-stopped}
 use Rattle.cell.specs.Limits.{within, minPathPoints, maxPoints, maxLayer, maxDataType}
 use Rattle.cell.specs.Write.{isSome, layerAndType, writePath}
 use Rattle.forms.specs.code.Place.{unitAt, coordinateAt}

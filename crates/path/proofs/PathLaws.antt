@@ -25,11 +25,11 @@ use Rattle.sheet.specs.Element as S
 use Rattle.stream.specs.Structure as D
 use Rattle.stream.specs.Records.{pointsBytes}
 use Rattle.records.specs.code.Bytes.{Placed, optionOf}
-use Rattle.writing.specs.declared.Measured.{Measured}
-use Rattle.writing.specs.declared.Measured.the-variants as M
-use Rattle.writing.specs.declared.Written.{Written}
-use Rattle.writing.specs.code.Steps.{sizing, Measures, Writes}
-use Rattle.writing.proofs.StepLaws.{run-through, stopped, written, putting, writes, outcome-of}
+use Rattle.steps.specs.declared.Measured.{Measured}
+use Rattle.steps.specs.declared.Measured.the-variants as M
+use Rattle.steps.specs.declared.Written.{Written}
+use Rattle.steps.specs.code.Steps.{sizing, Measures, Writes}
+use Rattle.steps.proofs.StepLaws.{run-through, stopped, written, putting, writes, outcome-of}
 use Rattle.cell.specs.Write.{isSome, writePath}
 use Rattle.points.specs.declared.Walked.{Walked}
 use Rattle.points.specs.declared.Walked.the-variants as W

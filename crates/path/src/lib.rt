@@ -9,7 +9,7 @@ ghost use Rattle.conversion.specs.Points.{writeLength};
 ghost use Rattle.cell.specs.Limits.{maxPoints};
 ghost use Rattle.cell.specs.Write.{isSome, writePath};
 ghost use Rattle.records.specs.code.Bytes.{Placed, optionOf};
-ghost use Rattle.writing.specs.code.Steps.{Measures, Succeeds, Writes};
+ghost use Rattle.steps.specs.code.Steps.{Measures, Succeeds, Writes};
 ghost use Rattle.forms.specs.code.Place.{coordinateAt, coordinateLength};
 ghost use Rattle.forms.specs.code.Forms.{pathTypeOf, pathAt, PathIn};
 ghost use Rattle.path.specs.code.Front.{extent, writeExtent, writeFront, GivesLength, GivesExtent};
@@ -20,8 +20,8 @@ use coordinate::Valued;
 use forms::PathPlaces;
 use points::Walked;
 use refusal::Refusal;
-use writing::Measured;
-use writing::Written;
+use steps::Measured;
+use steps::Written;
 
 // "Points: .. path 2 to 8,191 .. Layer and type at most 255" (document 01).
 const MIN_PATH_POINTS: usize = 2;

@@ -11,8 +11,8 @@ use Rattle.conversion.specs.declared.Deviation.{Deviation}
 use Rattle.conversion.specs.declared.Entry.{Entry}
 use Rattle.conversion.specs.Made.{Made, refused, made}
 use Rattle.conversion.specs.code.Fold.{notedAll, run}
-use Rattle.writing.specs.declared.Measured.the-variants as M
-use Rattle.writing.specs.code.Steps.{sizing, Measures}
+use Rattle.steps.specs.declared.Measured.the-variants as M
+use Rattle.steps.specs.code.Steps.{sizing, Measures}
 use Rattle.points.specs.declared.Walked.{Walked}
 use Rattle.points.specs.declared.Walked.the-variants as W
 use Rattle.points.specs.code.Walk.{through, walked}

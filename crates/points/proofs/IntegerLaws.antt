@@ -24,7 +24,7 @@ use Rattle.conversion.specs.Made.{Made, pure, _>>=_}
 use Rattle.conversion.specs.code.Fold.{notedAll, run}
 use Rattle.conversion.specs.Points.{writePoint, writePoints}
 use Rattle.stream.specs.Records.{longBytes, pointsBytes}
-use Rattle.writing.specs.code.Steps.{Writes}
+use Rattle.steps.specs.code.Steps.{Writes}
 use Rattle.cell.specs.Write.{lastOf}
 use Rattle.sheet.specs.Form.{integerKind}
 use Rattle.forms.specs.code.Place.{valuesFrom, doubleAt, unitAt, pointAt, pointsFrom}

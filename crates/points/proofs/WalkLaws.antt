@@ -23,8 +23,8 @@ use Rattle.conversion.specs.Points.{writePoint, writePoints}
 use Rattle.conversion.proofs.FoldLaws.{run-bind, run-pure, run-map, run-same}
 use Rattle.conversion.proofs.MadeLaws.{steps}
 use Rattle.stream.specs.Records.{longBytes, pointsBytes}
-use Rattle.writing.specs.code.Steps.{Succeeds}
-use Rattle.writing.proofs.StepLaws.{run-through, yields, succeeds, written, putting}
+use Rattle.steps.specs.code.Steps.{Succeeds}
+use Rattle.steps.proofs.StepLaws.{run-through, yields, succeeds, written, putting}
 use Rattle.forms.specs.code.Place.{valuesFrom, pointAt, pointsFrom}
 use Rattle.coordinate.specs.declared.Pointed.{Pointed}
 use Rattle.coordinate.specs.declared.Pointed.the-variants as P

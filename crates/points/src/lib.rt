@@ -9,7 +9,7 @@ ghost use Rattle.sheet.specs.Form.{integerKind};
 ghost use Rattle.conversion.specs.code.Fold.{run};
 ghost use Rattle.conversion.specs.Points.{writePoints};
 ghost use Rattle.stream.specs.Records.{pointsBytes};
-ghost use Rattle.writing.specs.code.Steps.{Succeeds, Writes};
+ghost use Rattle.steps.specs.code.Steps.{Succeeds, Writes};
 ghost use Rattle.forms.specs.code.Place.{pointsFrom, coordinateLength, pointLength};
 ghost use Rattle.points.specs.declared.Walked.the-variants as W;
 ghost use Rattle.cell.specs.Limits.{maxPoints};
@@ -23,7 +23,7 @@ use coordinate::Pointed;
 use forms::COORDINATE;
 use forms::POINT;
 use refusal::Refusal;
-use writing::Written;
+use steps::Written;
 
 // In an integer coordinate, the place of its value.
 const INTEGER_VALUE: usize = 5;

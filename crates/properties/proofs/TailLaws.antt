@@ -28,10 +28,10 @@ use Rattle.records.specs.code.Bytes.{Placed, Recorded}
 use Rattle.records.proofs.RecordLaws.{length-record, length-padded, then-placed}
 use Rattle.forms.specs.code.Place.{valuesFrom, placeFrom, stringAt, propertyAt, propertyEnd, propertiesFrom}
 use Rattle.forms.proofs.StringLaws.{length-string}
-use Rattle.writing.specs.declared.Measured.{Measured}
-use Rattle.writing.specs.declared.Measured.the-variants as M
-use Rattle.writing.specs.code.Steps.{sizing, Succeeds}
-use Rattle.writing.proofs.StepLaws.{yields, succeeds, written, putting}
+use Rattle.steps.specs.declared.Measured.{Measured}
+use Rattle.steps.specs.declared.Measured.the-variants as M
+use Rattle.steps.specs.code.Steps.{sizing, Succeeds}
+use Rattle.steps.proofs.StepLaws.{yields, succeeds, written, putting}
 use Rattle.properties.specs.code.Tail.{said, propertyBytes, tailBytes, tailLength}
 
 -- ---- lengths

@@ -7,12 +7,12 @@ ghost use Rattle.cell.specs.Limits.{maxSheetLength, maxValueLength};
 ghost use Rattle.cell.specs.Write.{writeProperties};
 ghost use Rattle.forms.specs.code.Place.{placeFrom, propertyAt, propertyEnd, propertiesFrom};
 ghost use Rattle.records.specs.code.Bytes.{Placed};
-ghost use Rattle.writing.specs.code.Steps.{Measures, Succeeds, Writes};
+ghost use Rattle.steps.specs.code.Steps.{Measures, Succeeds, Writes};
 ghost use Rattle.properties.specs.code.Tail.{said, propertyBytes, tailBytes, tailLength};
 use conversion::Entry;
 use refusal::Refusal;
-use writing::Measured;
-use writing::Written;
+use steps::Measured;
+use steps::Written;
 
 // The longest value that a PROPVALUE record holds.
 const MAX_VALUE_LENGTH: usize = 65530;

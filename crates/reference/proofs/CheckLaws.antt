@@ -25,8 +25,8 @@ use Rattle.forms.specs.declared.ReferencePlaces.{ReferencePlaces}
 use Rattle.forms.specs.code.Place.{pointAt, spacingAt, stringAt, stringEnd}
 use Rattle.forms.specs.code.Forms.{referenceAt}
 use Rattle.forms.proofs.StringLaws.{length-string}
-use Rattle.writing.specs.code.Steps.{Succeeds}
-use Rattle.writing.proofs.StepLaws.{yields, past-check}
+use Rattle.steps.specs.code.Steps.{Succeeds}
+use Rattle.steps.proofs.StepLaws.{yields, past-check}
 use Rattle.reference.specs.declared.Check.the-variants as C
 use Rattle.reference.specs.code.Reference.{guarded, lacking, Bounded, Checks}
 

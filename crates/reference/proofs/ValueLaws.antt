@@ -30,10 +30,10 @@ use Rattle.forms.specs.code.Forms.{referenceAt}
 use Rattle.transform.specs.declared.Strans.{Strans}
 use Rattle.transform.specs.code.Strans.{saidOf}
 use Rattle.transform.proofs.StransLaws.{transform-length, strans-length-is}
-use Rattle.writing.specs.code.Ready.{Ready, stopped, ready}
-use Rattle.writing.specs.code.Steps.{Succeeds}
-use Rattle.writing.proofs.StepLaws.{run-through}
-use Rattle.writing.proofs.ReadyLaws.{never-stopped}
+use Rattle.steps.specs.code.Ready.{Ready, stopped, ready}
+use Rattle.steps.specs.code.Steps.{Succeeds}
+use Rattle.steps.proofs.StepLaws.{run-through}
+use Rattle.steps.proofs.ReadyLaws.{never-stopped}
 use Rattle.coordinate.specs.declared.Pointed.{Pointed}
 use Rattle.coordinate.specs.declared.Pointed.the-variants as P
 use Rattle.coordinate.specs.code.Coordinate.{pointed, Converts}

@@ -13,7 +13,7 @@ ghost use Rattle.records.specs.code.Bytes.{Placed, Recorded};
 ghost use Rattle.transform.specs.code.Strans.{saidOf, stransLength};
 ghost use Rattle.array.specs.declared.Array.the-variants as Answer;
 ghost use Rattle.array.specs.code.Corners.{cornersFor, stepsOf, cornered};
-ghost use Rattle.writing.specs.code.Steps.{Measures, Succeeds, Writes};
+ghost use Rattle.steps.specs.code.Steps.{Measures, Succeeds, Writes};
 ghost use Rattle.reference.specs.code.Reference.{referenceBytes, sizeOf, singleRest, arrayRest, isSingle, referenceLength, lacking, Bounded, Checks, Encodes, afterTransform, afterChecks, turnedArray, srefOf, arefOf, Values};
 use array::Array;
 use array::Corners;
@@ -22,10 +22,10 @@ use conversion::GdsRoundingPolicy;
 use coordinate::Pointed;
 use forms::ReferencePlaces;
 use refusal::Refusal;
+use steps::Measured;
+use steps::Written;
 use transform::Strans;
 use transform::Transform;
-use writing::Measured;
-use writing::Written;
 
 // The most columns or rows.
 const MAX_COL_ROW: usize = 32767;

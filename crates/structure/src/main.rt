@@ -83,7 +83,7 @@ fn print_cell(input: &[u8])
     let d = binary64::from_bits(big_endian::u64_at(input, 1));
     let mut out = [0u8; 16384];
     let mut report = [0u8; 8192];
-    match write::write_cell(policy, d, &input[FRONT..], &mut out, &mut report) {
+    match write_cell::write_cell(policy, d, &input[FRONT..], &mut out, &mut report) {
         Answer::Refused { refusal, block } => print_refusal(refusal.number(), block),
         Answer::Accepted {
             length,

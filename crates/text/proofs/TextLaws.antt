@@ -40,10 +40,10 @@ use Rattle.coordinate.specs.code.Coordinate.{pointed, Converts}
 use Rattle.transform.specs.declared.Strans.{Strans}
 use Rattle.transform.specs.code.Strans.{saidOf, stransBytes, stransLength}
 use Rattle.transform.proofs.StransLaws.{then-strans, length-strans, length-strans-of, transform-length}
-use Rattle.writing.specs.code.Ready.{Ready, stopped, ready}
-use Rattle.writing.specs.code.Steps.{Succeeds}
-use Rattle.writing.proofs.StepLaws.{run-through, past-check}
-use Rattle.writing.proofs.ReadyLaws.{ready-yields}
+use Rattle.steps.specs.code.Ready.{Ready, stopped, ready}
+use Rattle.steps.specs.code.Steps.{Succeeds}
+use Rattle.steps.proofs.StepLaws.{run-through, past-check}
+use Rattle.steps.proofs.ReadyLaws.{ready-yields}
 use Rattle.text.specs.declared.TextValues.{TextValues}
 use Rattle.text.specs.declared.TextValues.the-variants as X
 use Rattle.text.specs.code.Text.{SaidText, textBytes, sizeOf, textLength, afterChecks, textOf, readyOf}

@@ -10,18 +10,18 @@ ghost use Rattle.forms.specs.code.Place.{stringEnd};
 ghost use Rattle.forms.specs.code.Forms.{textAt, TextIn};
 ghost use Rattle.transform.specs.code.Strans.{stransLength};
 ghost use Rattle.records.specs.code.Bytes.{Placed};
-ghost use Rattle.writing.specs.code.Ready.{stopped, ready};
-ghost use Rattle.writing.specs.code.Steps.{Measures, Succeeds, Writes};
+ghost use Rattle.steps.specs.code.Ready.{stopped, ready};
+ghost use Rattle.steps.specs.code.Steps.{Measures, Succeeds, Writes};
 ghost use Rattle.text.specs.code.Text.{sizeOf, textBytes, textLength, afterChecks, textOf, readyOf};
 use conversion::Entry;
 use conversion::GdsRoundingPolicy;
 use coordinate::Pointed;
 use forms::TextPlaces;
 use refusal::Refusal;
+use steps::Measured;
+use steps::Written;
 use transform::Strans;
 use transform::Transform;
-use writing::Measured;
-use writing::Written;
 
 // The highest layer.
 const MAX_LAYER: u16 = 255;

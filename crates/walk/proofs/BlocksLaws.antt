@@ -21,8 +21,8 @@ use Rattle.sheet.specs.Cell.{elementBlocks}
 use Rattle.stream.specs.Records.{elementsBytes}
 use Rattle.cell.specs.Limits.{maxSheetLength}
 use Rattle.cell.specs.Cell.{writeBlocks}
-use Rattle.writing.specs.declared.Measured.{Measured}
-use Rattle.writing.specs.declared.Measured.the-variants as M
+use Rattle.steps.specs.declared.Measured.{Measured}
+use Rattle.steps.specs.declared.Measured.the-variants as M
 use Rattle.elements.specs.code.Block.{measuredBlock, Short}
 use Rattle.elements.proofs.BlockLaws.{Met, met}
 use Rattle.walk.specs.declared.Totals.{Totals}

@@ -24,7 +24,7 @@ use Rattle.stream.specs.Structure.{Said}
 use Rattle.stream.specs.Records.{elementBytes, elementsBytes}
 use Rattle.cell.specs.Write.{writeElement}
 use Rattle.cell.specs.Cell.{writeBlocks}
-use Rattle.writing.specs.declared.Written.{Written}
+use Rattle.steps.specs.declared.Written.{Written}
 use Rattle.elements.specs.code.Block.{Fits, WritesBlock}
 use Rattle.walk.specs.code.Walk.{ElementsFit, PutsElements}
 use Rattle.sheet.proofs.CountLaws.{pairs-count, blocks-turn, blocks-end}

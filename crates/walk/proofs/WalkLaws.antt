@@ -23,8 +23,8 @@ use Rattle.stream.specs.Records.{elementBytes, elementsBytes}
 use Rattle.cell.specs.Write.{writeElement}
 use Rattle.cell.specs.Cell.{Result, stopped, written, inFront, writeBlocks}
 use Rattle.cell.proofs.WalkLaws.{walk-ill, walk-refused, walk-made}
-use Rattle.writing.specs.declared.Measured.{Measured}
-use Rattle.writing.specs.declared.Measured.the-variants as M
+use Rattle.steps.specs.declared.Measured.{Measured}
+use Rattle.steps.specs.declared.Measured.the-variants as M
 use Rattle.walk.specs.declared.Totals.the-variants as T
 use Rattle.elements.specs.code.Block.{measuredBlock}
 use Rattle.elements.proofs.BlockLaws.{Met, ill, refusing, writing, met}

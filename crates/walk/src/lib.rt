@@ -5,7 +5,7 @@ use conversion::GdsRoundingPolicy;
 use forms::HeadForm;
 use forms::HeadPlaces;
 use refusal::Refusal;
-use writing::Measured;
+use steps::Measured;
 ghost use mathlib.Core.Path.{_≡_};
 ghost use Prim.Native.Nat.{_+_, _≤_};
 ghost use lib.Dec.{T};

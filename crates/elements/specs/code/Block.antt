@@ -16,14 +16,14 @@ use Rattle.stream.specs.Record.{streamBytes}
 use Rattle.stream.specs.Records.{bodyRecords, elementBytes}
 use Rattle.cell.specs.Write.{writeElement}
 use Rattle.cell.specs.Order.{Accepted}
-use Rattle.writing.specs.declared.Measured.{Measured}
-use Rattle.writing.specs.declared.Measured.the-variants as M
-use Rattle.writing.specs.declared.Written.{Written}
-use Rattle.writing.specs.code.Steps.{sizing, Writes}
+use Rattle.steps.specs.declared.Measured.{Measured}
+use Rattle.steps.specs.declared.Measured.the-variants as M
+use Rattle.steps.specs.declared.Written.{Written}
+use Rattle.steps.specs.code.Steps.{sizing, Writes}
 use Rattle.forms.specs.declared.BodyPlaces.{BodyPlaces}
 use Rattle.forms.specs.declared.BodyPlaces.the-variants as B
 use Rattle.forms.specs.code.Forms.{pathAt}
-use Rattle.shape.specs.code.Shape.{shapeLength}
+use Rattle.polygon_node.specs.code.Shape.{shapeLength}
 use Rattle.path.specs.code.Length.{pathLength}
 use Rattle.text.specs.code.Text.{textLength}
 use Rattle.reference.specs.code.Reference.{referenceLength}

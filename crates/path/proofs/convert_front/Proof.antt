@@ -8,7 +8,7 @@ use Rattle.cell.specs.Limits.{within}
 use Rattle.forms.specs.code.Forms.{pathAt}
 use Rattle.points.proofs.WalkLaws.{length-from}
 use Rattle.validation.proofs.StampLaws.{was-true, was-false}
-use Rattle.writing.specs.code.Ready.{stopped, ready}
+use Rattle.steps.specs.code.Ready.{stopped, ready}
 use Rattle.path.proofs.FrontLaws.{wrong-count, right-count}
 use borrow.Author.Needs.{needs}
 use Rattle.path.proofs.convert_front.Statement.{statement}

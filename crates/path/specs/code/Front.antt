@@ -17,7 +17,7 @@ use Rattle.conversion.specs.Points.{writeLength}
 use Rattle.conversion.specs.Field.{widthField, beginField, endField}
 use Rattle.sheet.specs.Element as S
 use Rattle.records.specs.code.Bytes.{optionOf}
-use Rattle.writing.specs.code.Ready.{Ready, stopped, ready}
+use Rattle.steps.specs.code.Ready.{Ready, stopped, ready}
 use Rattle.cell.specs.Limits.{within, minPathPoints, maxPoints}
 use Rattle.cell.specs.Write.{isSome, layerAndType}
 use Rattle.path.specs.declared.Length.{Length}

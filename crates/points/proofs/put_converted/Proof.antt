@@ -17,8 +17,8 @@ use Rattle.conversion.specs.Points.{writePoint, writePoints}
 use Rattle.conversion.proofs.FoldLaws.{run-same}
 use Rattle.stream.specs.Records.{pointsBytes}
 use Rattle.forms.specs.code.Place.{pointAt, pointsFrom}
-use Rattle.writing.specs.code.Steps.{Succeeds}
-use Rattle.writing.proofs.StepLaws.{Outcome, stopped, putting, writes}
+use Rattle.steps.specs.code.Steps.{Succeeds}
+use Rattle.steps.proofs.StepLaws.{Outcome, stopped, putting, writes}
 use Rattle.coordinate.proofs.ValueLaws.{point-recorded, point-plain}
 use Rattle.points.proofs.WalkLaws.{go-on, go-end, whole-first, put-turn, put-end, Turn, point-put, never-pointed, first-succeeds}
 use Rattle.points.proofs.put_converted.Statement.{statement}

@@ -10,9 +10,9 @@ use Rattle.conversion.specs.code.Fold.{run}
 use Rattle.conversion.proofs.FoldLaws.{run-same}
 use Rattle.cell.specs.Write.{writeProperties}
 use Rattle.forms.specs.code.Place.{placeFrom, propertyEnd, propertiesFrom}
-use Rattle.writing.specs.declared.Measured.{Measured}
-use Rattle.writing.specs.declared.Measured.the-variants as M
-use Rattle.writing.specs.code.Steps.{sizing}
+use Rattle.steps.specs.declared.Measured.{Measured}
+use Rattle.steps.specs.declared.Measured.the-variants as M
+use Rattle.steps.specs.code.Steps.{sizing}
 use Rattle.properties.specs.code.Tail.{tailBytes}
 use Rattle.properties.proofs.TailLaws.{tail-start, tail-long, tail-turn, tail-end, counting, count-start, count-turn, count-end, place-start, place-up, place-in, place-next}
 use Rattle.properties.proofs.measure_tail.Statement.{statement}

@@ -10,8 +10,8 @@ use Rattle.conversion.specs.code.Fold.{run}
 use Rattle.conversion.proofs.FoldLaws.{run-same}
 use Rattle.cell.specs.Write.{writeProperties}
 use Rattle.forms.specs.code.Place.{placeFrom, propertyEnd, propertiesFrom}
-use Rattle.writing.specs.code.Steps.{Succeeds}
-use Rattle.writing.proofs.StepLaws.{Outcome, stopped, putting, writes}
+use Rattle.steps.specs.code.Steps.{Succeeds}
+use Rattle.steps.proofs.StepLaws.{Outcome, stopped, putting, writes}
 use Rattle.properties.specs.code.Tail.{tailBytes, tailLength}
 use Rattle.properties.proofs.TailLaws.{value-fits, rest-succeeds, tail-start, tail-turn, tail-end, put-turn, put-end, length-start, length-turn, length-end, place-start, place-in, place-next}
 use Rattle.properties.proofs.put_tail.Statement.{statement}

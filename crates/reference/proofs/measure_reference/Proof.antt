@@ -2,7 +2,7 @@
 use mathlib.Core.Path.{sym, ap, _∙_, subst}
 use Rattle.transform.specs.code.Strans.{saidOf}
 use Rattle.array.specs.code.Corners.{stepsOf}
-use Rattle.writing.proofs.ReadyLaws.{measure-stopped, measure-ready}
+use Rattle.steps.proofs.ReadyLaws.{measure-stopped, measure-ready}
 use Rattle.reference.specs.code.Reference.{referenceBytes, readyOf, Fine, srefOf, arefOf}
 use Rattle.reference.proofs.RecordLaws.{length-sref, length-aref, length-sum}
 use borrow.Author.Needs.{needs}

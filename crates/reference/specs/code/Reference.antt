@@ -28,7 +28,7 @@ use Rattle.forms.specs.declared.ReferencePlaces.{ReferencePlaces}
 use Rattle.forms.specs.code.Place.{spacingAt, stringAt}
 use Rattle.transform.specs.declared.Strans.{Strans}
 use Rattle.transform.specs.code.Strans.{saidOf, stransBytes, stransLength, transformLength}
-use Rattle.writing.specs.code.Ready.{Ready, stopped, ready}
+use Rattle.steps.specs.code.Ready.{Ready, stopped, ready}
 use Rattle.array.specs.declared.Corners.{Corners}
 use Rattle.array.specs.code.Corners.{cornersFor, stepsOf}
 use Rattle.reference.specs.declared.Check.{Check}

@@ -3,7 +3,7 @@ use mathlib.Core.Path.{sym}
 use native.Mathlib.Omega.{arith}
 use lib.ListN.{length-take}
 use lib.Seq.{length-take-le}
-use Rattle.write.proofs.RoomLaws.{writes-room}
+use Rattle.write_cell.proofs.RoomLaws.{writes-room}
 use borrow.Author.Needs.{needs}
 use Rattle.structure.proofs.print_cell.Statement.{statement}
 use Rattle.structure.proofs.print_cell.Tie as tie

@@ -6,7 +6,7 @@ use mir.Val.{SFits}
 use mir.ValLaws.{toZ-ofZ}
 use Rattle.forms.specs.code.Forms.{textAt}
 use Rattle.transform.specs.code.Strans.{saidOf, transformOf}
-use Rattle.writing.specs.code.Ready.{stopped, ready}
+use Rattle.steps.specs.code.Ready.{stopped, ready}
 use Rattle.text.specs.code.Text.{SaidText, textOf}
 use Rattle.text.proofs.TextLaws.{said-of, text-transform, text-origin, text-through}
 use borrow.Author.Needs.{needs}

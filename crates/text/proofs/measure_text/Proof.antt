@@ -4,7 +4,7 @@ use Prim.Native.Nat.{ℕ, _+_, _%_, _≤_}
 use native.Mathlib.Omega.{arith}
 use Rattle.big_endian.specs.Big.{numberAt}
 use Rattle.cell.specs.Limits.{maxStringLength}
-use Rattle.writing.proofs.ReadyLaws.{measure-stopped, measure-ready}
+use Rattle.steps.proofs.ReadyLaws.{measure-stopped, measure-ready}
 use Rattle.transform.proofs.StransLaws.{strans-short}
 use Rattle.text.specs.code.Text.{sizeOf, textBytes, textOf, readyOf}
 use Rattle.text.proofs.TextLaws.{ready-short, length-text-of}

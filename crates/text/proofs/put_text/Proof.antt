@@ -8,8 +8,8 @@ use mir.ValLaws.{toZ-ofZ}
 use Rattle.conversion.specs.code.Fold.{run}
 use Rattle.cell.specs.Write.{writeText}
 use Rattle.forms.specs.code.Forms.{textAt}
-use Rattle.writing.specs.code.Ready.{stopped, ready}
-use Rattle.writing.proofs.ReadyLaws.{never-stopped, write-ready}
+use Rattle.steps.specs.code.Ready.{stopped, ready}
+use Rattle.steps.proofs.ReadyLaws.{never-stopped, write-ready}
 use Rattle.text.specs.code.Text.{textBytes, textOf, readyOf}
 use Rattle.text.proofs.TextLaws.{ready-past, ready-short, ready-length, same-point}
 use borrow.Author.Needs.{needs}

@@ -6,7 +6,7 @@ use borrow.Author.Tests.{le-leb, lt-leb}
 use Prim.Native.Nat.{ℕ}
 use Rattle.cell.specs.Limits.{maxLayer, maxStringLength}
 use Rattle.forms.specs.code.Forms.{textAt}
-use Rattle.writing.specs.code.Ready.{stopped, ready}
+use Rattle.steps.specs.code.Ready.{stopped, ready}
 use Rattle.text.proofs.TextLaws.{text-layer, text-string, text-checked, string-long}
 use borrow.Author.Needs.{needs}
 use Rattle.text.proofs.text_values.Statement.{statement}

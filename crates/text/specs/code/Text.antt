@@ -19,7 +19,7 @@ use Rattle.forms.specs.declared.TextPlaces.{TextPlaces}
 use Rattle.forms.specs.code.Place.{stringAt}
 use Rattle.transform.specs.declared.Strans.{Strans}
 use Rattle.transform.specs.code.Strans.{saidOf, transformLength}
-use Rattle.writing.specs.code.Ready.{Ready, stopped, ready}
+use Rattle.steps.specs.code.Ready.{Ready, stopped, ready}
 use Rattle.text.specs.declared.TextValues.{TextValues}
 use Rattle.text.specs.declared.TextValues.the-variants as X
 

@@ -1,0 +1,37 @@
+-- `polygon_node::put_polygon` meets its contract: what is left after its checks is its points. Assumes nothing.
+use mathlib.Core.Path.{sym, subst}
+use native.Mathlib.Omega.{arith}
+use Rattle.steps.specs.code.Steps.{Succeeds}
+use Rattle.steps.proofs.StepLaws.{same-step}
+use Rattle.forms.specs.code.Forms.{shapeAt}
+use Rattle.points.proofs.WalkLaws.{length-from}
+use Rattle.polygon_node.proofs.PolygonLaws.{polygon-is, polygon-counted}
+use borrow.Author.Needs.{needs}
+use Rattle.polygon_node.proofs.put_polygon.Statement.{statement}
+use Rattle.polygon_node.proofs.put_polygon.Tie as tie
+
+put-shape-requires : tie.Need-put-shape-requires
+unfolding shapeAt
+put-shape-requires c κs =
+    let a = c .before .before .before .args in
+    let p = c .before .before .before .pre in
+    let s = shapeAt (a .b .now) (a .places) in
+    let n = polygon-counted (a .policy) (a .d) s (p .1 .0) in
+    let l = length-from (a .places .count) (a .b .now) (a .places .points) in
+    (p .0, (omega arith, (subst Succeeds (polygon-is (a .policy) (a .d) s (p .1 .0)) (p .1 .0), (p .1 .1 .0, p .1 .1 .1))))
+
+same-length : tie.Need-same-length
+same-length c = search needs
+
+returns : tie.Need-returns
+returns c =
+    let a = c .before .before .before .before .before .before .args in
+    same-step (sym (polygon-is (a .policy) (a .d) (shapeAt (a .b .now) (a .places)) (c .before .before .before .before .before .before .pre .1 .0))) (c .before .before .put-shape .ensures)
+
+pub put-polygon-spec : {M : Type 1} → statement M
+put-polygon-spec =
+    tie.close
+    (tie.spec
+    put-shape-requires
+    same-length
+    returns)

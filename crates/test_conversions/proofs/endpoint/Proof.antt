@@ -1,0 +1,72 @@
+-- `test_conversions::endpoint` meets its contract. Assumes nothing.
+use mathlib.Core.Path.{_≡_, _∙_}
+use mathlib.Core.List.{List}
+use Prim.Native.Nat.{ℕ, _+_}
+use lib.IntN.{ℤ}
+use lib.Ieee.{Float}
+use mir.Syntax.{w32}
+use mir.ValLaws.{toZ-ofZ}
+use Rattle.big_endian.specs.Big.{numberAt}
+use Rattle.conversion.specs.Convert.{Spot, arrayEndpoint}
+use Rattle.test_conversions.specs.Case.{doubleAt, signedAt, endpointAt}
+use borrow.Author.Needs.{needs}
+use Rattle.test_conversions.proofs.endpoint.Statement.{statement}
+use Rattle.test_conversions.proofs.endpoint.Tie as tie
+
+by-parts : (s : List ℕ) (at : ℕ) (d p : Float) (origin spacing : ℤ) (count : ℕ) (spot : Spot) → d ≡ doubleAt s (at + 2) → p ≡ doubleAt s (at + 10)
+    → origin ≡ signedAt s (at + 18) → spacing ≡ signedAt s (at + 22) → count ≡ numberAt 4 s (at + 26) → arrayEndpoint d spot origin spacing count p ≡ endpointAt s at spot
+unfolding endpointAt
+by-parts s at d p origin spacing count spot a b e f g = cc
+
+add-double-at : tie.Need-add-double-at
+add-double-at c = search needs
+
+double-at-requires : tie.Need-double-at-requires
+double-at-requires c κs = search needs
+
+add-double-at-2 : tie.Need-add-double-at-2
+add-double-at-2 c = search needs
+
+double-at-requires-2 : tie.Need-double-at-requires-2
+double-at-requires-2 c κs = search needs
+
+add-signed-at : tie.Need-add-signed-at
+add-signed-at c = search needs
+
+signed-at-requires : tie.Need-signed-at-requires
+signed-at-requires c κs = search needs
+
+add-signed-at-2 : tie.Need-add-signed-at-2
+add-signed-at-2 c = search needs
+
+signed-at-requires-2 : tie.Need-signed-at-requires-2
+signed-at-requires-2 c κs = search needs
+
+add-u32-at : tie.Need-add-u32-at
+add-u32-at c = search needs
+
+u32-at-requires : tie.Need-u32-at-requires
+u32-at-requires c κs = search needs
+
+checked-array-endpoint-requires : tie.Need-checked-array-endpoint-requires
+checked-array-endpoint-requires c κs = search needs
+
+returns : tie.Need-returns
+returns c spot = let a = c .before .before .before .before .before .before .before .args in c .checked-array-endpoint .ensures spot ∙ by-parts (a .cases .now) (a .at) _ _ _ _ _ spot (c .before .before .before .before .before .double-at .ensures) (c .before .before .before .before .double-at2 .ensures) (toZ-ofZ w32 (c .before .before .before .signed-at .result) (record { sfits = c .before .before .before .signed-at .ok }) ∙ c .before .before .before .signed-at .ensures) (toZ-ofZ w32 (c .before .before .signed-at2 .result) (record { sfits = c .before .before .signed-at2 .ok }) ∙ c .before .before .signed-at2 .ensures) (c .before .u32-at .ensures)
+
+pub endpoint-spec : {M : Type 1} → statement M
+endpoint-spec =
+    tie.close
+    (tie.spec
+    add-double-at
+    double-at-requires
+    add-double-at-2
+    double-at-requires-2
+    add-signed-at
+    signed-at-requires
+    add-signed-at-2
+    signed-at-requires-2
+    add-u32-at
+    u32-at-requires
+    checked-array-endpoint-requires
+    returns)

@@ -1,0 +1,157 @@
+-- `test_vectors::answered` meets its contract. Assumes nothing.
+use mathlib.Core.Path.{sym, ap, _∙_}
+use lib.Ieee.{binary64, ofBits}
+use native.Mathlib.Omega.{arith}
+use lib.Seq.{length-take-le}
+use Rattle.big_endian.proofs.BufferLaws.{length-at}
+use Rattle.test_vectors.proofs.CaseLaws.{stored-end, answered-is}
+use borrow.Author.Needs.{needs}
+use Rattle.test_vectors.proofs.answered.Statement.{statement}
+use Rattle.test_vectors.proofs.answered.Tie as tie
+
+u32-at-requires : tie.Need-u32-at-requires
+u32-at-requires c κs = search needs
+
+cast-n : tie.Need-cast-n
+cast-n c = search needs
+
+add-u32-at : tie.Need-add-u32-at
+add-u32-at c = search needs
+
+add-u32-at-2 : tie.Need-add-u32-at-2
+add-u32-at-2 c = search needs
+
+u32-at-requires-2 : tie.Need-u32-at-requires-2
+u32-at-requires-2 c κs = search needs
+
+cast-m : tie.Need-cast-m
+cast-m c = search needs
+
+add-u8-at : tie.Need-add-u8-at
+add-u8-at c = search needs
+
+u8-at-requires : tie.Need-u8-at-requires
+u8-at-requires c κs = search needs
+
+add-u64-at : tie.Need-add-u64-at
+add-u64-at c = search needs
+
+u64-at-requires : tie.Need-u64-at-requires
+u64-at-requires c κs = search needs
+
+from-bits-requires : tie.Need-from-bits-requires
+from-bits-requires c κs = search needs
+
+slice-aggregate-put-answer : tie.Need-slice-aggregate-put-answer
+slice-aggregate-put-answer c = search needs
+
+add-put-answer : tie.Need-add-put-answer
+add-put-answer c = search needs
+
+add-put-answer-2 : tie.Need-add-put-answer-2
+add-put-answer-2 c = search needs
+
+add-put-answer-3 : tie.Need-add-put-answer-3
+add-put-answer-3 c = search needs
+
+sub-put-answer : tie.Need-sub-put-answer
+sub-put-answer c = search needs
+
+part-put-answer-start : tie.Need-part-put-answer-start
+part-put-answer-start c = search needs
+
+part-put-answer-end : tie.Need-part-put-answer-end
+part-put-answer-end c = search needs
+
+put-answer-requires : tie.Need-put-answer-requires
+put-answer-requires c κs = search needs
+
+add-start : tie.Need-add-start
+add-start c = search needs
+
+add-start-2 : tie.Need-add-start-2
+add-start-2 c = search needs
+
+array-share-prefix-text : tie.Need-array-share-prefix-text
+array-share-prefix-text c = search needs
+
+slice-aggregate-same : tie.Need-slice-aggregate-same
+slice-aggregate-same c =
+    let w = c .before .before .put-answer .ensures in
+    let n = length-at w in
+    let k = w .count in
+    let f = w .fits in
+    sym (length-take-le (c .before .before .put-answer .result) (c .before .before .put-answer .last .0) (omega arith))
+
+add-same : tie.Need-add-same
+add-same c = search needs
+
+sub-same : tie.Need-sub-same
+sub-same c = search needs
+
+part-same-start : tie.Need-part-same-start
+part-same-start c = search needs
+
+part-same-end : tie.Need-part-same-end
+part-same-end c =
+    let h = stored-end (c .before .before .before .before .before .before .before .before .before .before .before .args .cases .now) (c .before .before .before .before .before .before .before .before .before .before .before .args .at) (c .before .before .before .before .before .before .before .before .before .u32-at .result) (c .before .before .before .before .before .before .before .before .u32-at2 .result) (c .before .before .before .before .before .before .before .before .before .before .before .pre) (c .before .before .before .before .before .before .before .before .before .u32-at .ensures) (c .before .before .before .before .before .before .before .before .u32-at2 .ensures) in
+    search needs
+
+same-requires : tie.Need-same-requires
+same-requires c κs = search needs
+
+returns : tie.Need-returns
+returns c =
+    let at-put-answer = c .before .before .before .before in
+    let at-from-bits = at-put-answer .before .before .before in
+    let at-u64-at = at-from-bits .before in
+    let at-u8-at = at-u64-at .before in
+    let at-u32-at2 = at-u8-at .before in
+    let at-u32-at = at-u32-at2 .before in
+    let start = at-u32-at .before .before in
+    answered-is (start .args .cases .now)
+    (start .args .at)
+    (at-u32-at .u32-at .result)
+    (at-u32-at2 .u32-at2 .result)
+    (at-u8-at .u8-at .result)
+    (at-put-answer .put-answer .result) (at-from-bits .from-bits .result)
+    _ _ (c .same .result) (at-u32-at .u32-at .ensures)
+    (at-u32-at2 .u32-at2 .ensures)
+    (at-u8-at .u8-at .ensures)
+    (at-from-bits .from-bits .ensures ∙ ap (ofBits binary64) (at-u64-at .u64-at .ensures))
+    (at-put-answer .put-answer .ensures) (c .same .ensures .0)
+    (c .same .ensures .1)
+
+pub answered-spec : {M : Type 1} → statement M
+answered-spec =
+    tie.close
+    (tie.spec
+    u32-at-requires
+    cast-n
+    add-u32-at
+    add-u32-at-2
+    u32-at-requires-2
+    cast-m
+    add-u8-at
+    u8-at-requires
+    add-u64-at
+    u64-at-requires
+    from-bits-requires
+    slice-aggregate-put-answer
+    add-put-answer
+    add-put-answer-2
+    add-put-answer-3
+    sub-put-answer
+    part-put-answer-start
+    part-put-answer-end
+    put-answer-requires
+    add-start
+    add-start-2
+    array-share-prefix-text
+    slice-aggregate-same
+    add-same
+    sub-same
+    part-same-start
+    part-same-end
+    same-requires
+    returns)
