@@ -2,7 +2,6 @@
 ghost use mathlib.Core.Path.{_≡_};
 ghost use Prim.Native.Nat.{_+_, _≤_, _<_};
 ghost use lib.ListN.{length};
-ghost use Rattle.conversion.specs.declared.GdsRoundingPolicy as Policy;
 ghost use Rattle.conversion.specs.code.Answer.{pointOf};
 ghost use Rattle.conversion.specs.Array.{physicalPoint, physicalSpacing, writePhysical, writeEndpoint, convertArray};
 ghost use Rattle.conversion.specs.code.Fold.{run};
@@ -10,8 +9,8 @@ ghost use Rattle.forms.specs.code.Place.{pointAt, spacingAt, pointLength};
 ghost use Rattle.forms.specs.code.Forms.{ReferenceIn};
 ghost use Rattle.array.specs.declared.Array.the-variants as Answer;
 ghost use Rattle.array.specs.code.Corners.{physicalsOf, physicalPart, databasePart, Converts, endOf, Ends, cornered, afterSteps, afterSpacings, afterOrigin};
+use conversion::CoordinateConverter;
 use conversion::Entry;
-use conversion::GdsRoundingPolicy;
 use conversion::PhysicalPoint;
 use conversion::PhysicalValue;
 use coordinate::Pointed;
@@ -96,20 +95,19 @@ fn physical_spacing(b: &[u8], at: usize) -> Physical
 
 // Two physical values, x before y.
 fn convert_physical_point(
-    policy: GdsRoundingPolicy,
-    d: f64,
+    converter: CoordinateConverter,
     p: PhysicalPoint,
     field: u8,
     entry: Entry,
 ) -> Converted
     requires { ⌜ entry .count < 4294967294 ⌝ }
-    ensures { λ r. ⌜ Converts entry (pointOf p) (writePhysical policy d field (pointOf p)) r ⌝ }
+    ensures { λ r. ⌜ Converts entry (pointOf p) (writePhysical (converter .policy) (converter .d) field (pointOf p)) r ⌝ }
 {
-    let a = conversion::convert_physical(policy, d, p.x);
+    let a = converter.convert_physical(p.x);
     match coordinate::record_quantization(a, field, conversion::X_AXIS, 0, entry) {
         Valued::Refused { refusal } => Converted::Refused { refusal },
         Valued::At { value: x, entry: e } => {
-            let b = conversion::convert_physical(policy, d, p.y);
+            let b = converter.convert_physical(p.y);
             match coordinate::record_quantization(b, field, conversion::Y_AXIS, 0, e) {
                 Valued::Refused { refusal: refusal2 } => Converted::Refused { refusal: refusal2 },
                 Valued::At {
@@ -131,7 +129,7 @@ fn convert_physical_point(
 
 // n steps from the origin, x before y.
 fn convert_endpoint(
-    d: f64,
+    converter: CoordinateConverter,
     origin: ArrayPoint,
     step: ArrayPoint,
     n: u32,
@@ -139,15 +137,15 @@ fn convert_endpoint(
     entry: Entry,
 ) -> Pointed
     requires { ⌜ entry .count < 4294967294 ⌝ }
-    ensures { λ r. ⌜ ((policy : Policy.GdsRoundingPolicy) → Ends entry (endOf (databasePart origin) (databasePart step) n) (writeEndpoint policy d field (databasePart origin) (databasePart step) n (physicalPart origin) (physicalPart step)) r) ⌝ }
+    ensures { λ r. ⌜ Ends entry (endOf (databasePart origin) (databasePart step) n) (writeEndpoint (converter .policy) (converter .d) field (databasePart origin) (databasePart step) n (physicalPart origin) (physicalPart step)) r ⌝ }
 {
     let p = conversion::endpoint_physical(step.px, n, origin.px);
-    let a = conversion::checked_array_endpoint(d, origin.x, step.x, n, p);
+    let a = converter.checked_array_endpoint(origin.x, step.x, n, p);
     match coordinate::record_quantization(a, field, conversion::X_AXIS, 0, entry) {
         Valued::Refused { refusal } => Pointed::Refused { refusal },
         Valued::At { value: x, entry: e } => {
             let q = conversion::endpoint_physical(step.py, n, origin.py);
-            let b = conversion::checked_array_endpoint(d, origin.y, step.y, n, q);
+            let b = converter.checked_array_endpoint(origin.y, step.y, n, q);
             match coordinate::record_quantization(b, field, conversion::Y_AXIS, 0, e) {
                 Valued::Refused { refusal: refusal2 } => Pointed::Refused { refusal: refusal2 },
                 Valued::At {
@@ -163,7 +161,7 @@ fn convert_endpoint(
 
 // The endpoints, columns before rows.
 fn convert_endpoints(
-    d: f64,
+    converter: CoordinateConverter,
     columns: u32,
     rows: u32,
     origin: ArrayPoint,
@@ -172,10 +170,10 @@ fn convert_endpoints(
     entry: Entry,
 ) -> Array
     requires { ⌜ entry .count ≤ 22 ⌝ }
-    ensures { λ r. ⌜ ((policy : Policy.GdsRoundingPolicy) → r ≡ run Answer.Refused entry (afterSteps policy d columns rows (physicalPart origin) (databasePart origin) (physicalPart column) (physicalPart row) (databasePart column) (databasePart row)) (cornered columns rows)) ⌝ }
+    ensures { λ r. ⌜ r ≡ run Answer.Refused entry (afterSteps (converter .policy) (converter .d) columns rows (physicalPart origin) (databasePart origin) (physicalPart column) (physicalPart row) (databasePart column) (databasePart row)) (cornered columns rows) ⌝ }
 {
     match convert_endpoint(
-        d,
+        converter,
         origin,
         column,
         columns,
@@ -188,7 +186,14 @@ fn convert_endpoints(
             y: y1,
             entry: e,
         } => {
-            match convert_endpoint(d, origin, row, rows, conversion::ROW_ENDPOINT_FIELD, e) {
+            match convert_endpoint(
+                converter,
+                origin,
+                row,
+                rows,
+                conversion::ROW_ENDPOINT_FIELD,
+                e,
+            ) {
                 Pointed::Refused { refusal: refusal2 } => Array::Refused { refusal: refusal2 },
                 Pointed::At {
                     x: x2,
@@ -216,8 +221,7 @@ fn convert_endpoints(
 
 // The steps, which are the turned spacings on the grid, and the endpoints.
 fn convert_steps(
-    policy: GdsRoundingPolicy,
-    d: f64,
+    converter: CoordinateConverter,
     columns: u32,
     rows: u32,
     origin: ArrayPoint,
@@ -226,17 +230,17 @@ fn convert_steps(
     entry: Entry,
 ) -> Array
     requires { ⌜ entry .count ≤ 18 ⌝ }
-    ensures { λ r. ⌜ r ≡ run Answer.Refused entry (afterSpacings policy d columns rows (physicalPart origin) (databasePart origin) (pointOf column) (pointOf row)) (cornered columns rows) ⌝ }
+    ensures { λ r. ⌜ r ≡ run Answer.Refused entry (afterSpacings (converter .policy) (converter .d) columns rows (physicalPart origin) (databasePart origin) (pointOf column) (pointOf row)) (cornered columns rows) ⌝ }
 {
-    match convert_physical_point(policy, d, column, conversion::COLUMN_SPACING_FIELD, entry) {
+    match convert_physical_point(converter, column, conversion::COLUMN_SPACING_FIELD, entry) {
         Converted::Refused { refusal } => Array::Refused { refusal },
         Converted::At { point: a, entry: e } => {
-            match convert_physical_point(policy, d, row, conversion::ROW_SPACING_FIELD, e) {
+            match convert_physical_point(converter, row, conversion::ROW_SPACING_FIELD, e) {
                 Converted::Refused { refusal: refusal2 } => Array::Refused { refusal: refusal2 },
                 Converted::At {
                     point: b,
                     entry: more,
-                } => { convert_endpoints(d, columns, rows, origin, a, b, more) }
+                } => { convert_endpoints(converter, columns, rows, origin, a, b, more) }
             }
         }
     }
@@ -244,8 +248,7 @@ fn convert_steps(
 
 // The spacings turned, and the steps: all four physical values before the first is converted.
 fn convert_spacings(
-    policy: GdsRoundingPolicy,
-    d: f64,
+    converter: CoordinateConverter,
     b: &[u8],
     s: ReferencePlaces,
     origin: ArrayPoint,
@@ -253,7 +256,7 @@ fn convert_spacings(
 ) -> Array
     requires { ⌜ ReferenceIn (now b) s ⌝ }
     requires { ⌜ entry .count ≤ 18 ⌝ }
-    ensures { λ r. ⌜ r ≡ run Answer.Refused entry (afterOrigin policy d (s .columns) (s .rows) (s .sine) (s .cosine) (spacingAt (now (b .entry)) (s .column)) (spacingAt (now (b .entry)) (s .row)) (physicalPart origin) (databasePart origin)) (cornered (s .columns) (s .rows)) ⌝ }
+    ensures { λ r. ⌜ r ≡ run Answer.Refused entry (afterOrigin (converter .policy) (converter .d) (s .columns) (s .rows) (s .sine) (s .cosine) (spacingAt (now (b .entry)) (s .column)) (spacingAt (now (b .entry)) (s .row)) (physicalPart origin) (databasePart origin)) (cornered (s .columns) (s .rows)) ⌝ }
 {
     match physical_spacing(b, s.column) {
         Physical::Refused { refusal } => Array::Refused { refusal },
@@ -263,7 +266,7 @@ fn convert_spacings(
                 Physical::At { point: row } => {
                     let a = conversion::turned(s.sine, s.cosine, column);
                     let c = conversion::turned(s.sine, s.cosine, row);
-                    convert_steps(policy, d, s.columns, s.rows, origin, a, c, entry)
+                    convert_steps(converter, s.columns, s.rows, origin, a, c, entry)
                 }
             }
         }
@@ -272,25 +275,24 @@ fn convert_spacings(
 
 // The array of a reference: the origin, the spacings, the endpoints.
 pub fn convert_array(
-    policy: GdsRoundingPolicy,
-    d: f64,
+    converter: CoordinateConverter,
     b: &[u8],
     s: ReferencePlaces,
     entry: Entry,
 ) -> Array
     requires { ⌜ ReferenceIn (now b) s ⌝ }
     requires { ⌜ entry .count ≤ 16 ⌝ }
-    ensures { λ r. ⌜ r ≡ run Answer.Refused entry (convertArray policy d (s .sine) (s .cosine) (s .columns) (s .rows) (pointAt (now (b .entry)) (s .origin)) (spacingAt (now (b .entry)) (s .column)) (spacingAt (now (b .entry)) (s .row))) (cornered (s .columns) (s .rows)) ⌝ }
+    ensures { λ r. ⌜ r ≡ run Answer.Refused entry (convertArray (converter .policy) (converter .d) (s .sine) (s .cosine) (s .columns) (s .rows) (pointAt (now (b .entry)) (s .origin)) (spacingAt (now (b .entry)) (s .column)) (spacingAt (now (b .entry)) (s .row))) (cornered (s .columns) (s .rows)) ⌝ }
 {
     match physical_point(b, s.origin) {
         Physical::Refused { refusal } => Array::Refused { refusal },
         Physical::At { point } => {
-            match convert_physical_point(policy, d, point, conversion::ORIGIN_FIELD, entry) {
+            match convert_physical_point(converter, point, conversion::ORIGIN_FIELD, entry) {
                 Converted::Refused { refusal: refusal2 } => Array::Refused { refusal: refusal2 },
                 Converted::At {
                     point: origin,
                     entry: e,
-                } => { convert_spacings(policy, d, b, s, origin, e) }
+                } => { convert_spacings(converter, b, s, origin, e) }
             }
         }
     }

@@ -7,6 +7,7 @@ ghost use Rattle.bounds.specs.Range.{rangeOf};
 ghost use Rattle.bounds.specs.Answer.{answerOf, valuesOf};
 ghost use Rattle.bounds.specs.Bounds.{ConvertsBounds};
 use conversion::CallerPolicy;
+use conversion::CoordinateConverter;
 use conversion::DatabaseValue;
 use conversion::GdsRoundingPolicy;
 use refusal::Refusal;
@@ -41,10 +42,11 @@ fn admitted(policy: GdsRoundingPolicy, lower: f64, upper: f64) -> bool
 }
 
 // The range under a policy. Conversion keeps order, so the two ends have its least and its greatest value.
-fn range_of(policy: GdsRoundingPolicy, d: f64, lower: f64, upper: f64) -> RangeAnswer
-    ensures { λ r. ⌜ r ≡ answerOf (rangeOf policy d lower upper) ⌝ }
+fn range_of(converter: CoordinateConverter, lower: f64, upper: f64) -> RangeAnswer
+    ensures { λ r. ⌜ r ≡ answerOf (rangeOf (converter .policy) (converter .d) lower upper) ⌝ }
 {
     let finite = both_finite(lower, upper);
+    let policy = converter.policy;
     let ordered = admitted(policy, lower, upper);
     if !finite {
         return RangeAnswer::Refused {
@@ -56,10 +58,10 @@ fn range_of(policy: GdsRoundingPolicy, d: f64, lower: f64, upper: f64) -> RangeA
             refusal: Refusal::Bounds,
         };
     }
-    match conversion::database_value(policy, d, lower) {
+    match converter.database_value(lower) {
         DatabaseValue::Refused { refusal } => RangeAnswer::Refused { refusal },
         DatabaseValue::At { value: least } => {
-            match conversion::database_value(policy, d, upper) {
+            match converter.database_value(upper) {
                 DatabaseValue::Refused { refusal: above } => {
                     RangeAnswer::Refused { refusal: above }
                 }
@@ -75,6 +77,12 @@ pub fn convert_bounds(policy: u8, d: f64, lower: f64, upper: f64) -> RangeAnswer
 {
     match conversion::caller_policy(policy, d) {
         CallerPolicy::Refused { refusal } => RangeAnswer::Refused { refusal },
-        CallerPolicy::With { policy: rounding } => range_of(rounding, d, lower, upper),
+        CallerPolicy::With { policy: rounding } => {
+            let converter = CoordinateConverter {
+                policy: rounding,
+                d,
+            };
+            range_of(converter, lower, upper)
+        }
     }
 }

@@ -104,6 +104,12 @@ pub enum Conversion {
     },
 }
 
+// What every conversion goes by: the rounding policy, and the database unit d (gdsr's `database_units`).
+pub struct CoordinateConverter {
+    pub policy: GdsRoundingPolicy,
+    pub d: f64,
+}
+
 // The physical values of a point.
 pub struct PhysicalPoint {
     pub x: f64,
@@ -216,20 +222,6 @@ fn grid_value(policy: GdsRoundingPolicy, s: f64) -> DatabaseValue
     }
 }
 
-// The database value of a physical value, whatever field it stands in.
-pub fn database_value(policy: GdsRoundingPolicy, d: f64, p: f64) -> DatabaseValue
-    ensures { λ r. ⌜ valueOf r ≡ databaseValue policy d p ⌝ }
-{
-    let s = p / d;
-    if binary64::is_finite(s) {
-        grid_value(policy, s)
-    } else {
-        DatabaseValue::Refused {
-            refusal: Refusal::NotFinite,
-        }
-    }
-}
-
 // The size of x: its bits but the sign. No branch on the sign, which nothing foretells.
 fn abs(x: f64) -> f64
     ensures { λ r. ⌜ r ≡ Convert.abs x ⌝ }
@@ -267,23 +259,6 @@ fn quantization(d: f64, p: f64, s: f64, q: i32) -> Conversion
     Conversion::Converted { value: q }
 }
 
-// A physical value to the grid.
-pub fn convert_physical(policy: GdsRoundingPolicy, d: f64, p: f64) -> Conversion
-    ensures { λ r. ⌜ ((at : Spot) → outcome at r ≡ convertPhysical policy d at p) ⌝ }
-{
-    let s = p / d;
-    if binary64::is_finite(s) {
-        match grid_value(policy, s) {
-            DatabaseValue::Refused { refusal } => Conversion::Refused { refusal },
-            DatabaseValue::At { value } => quantization(d, p, s, value),
-        }
-    } else {
-        Conversion::Refused {
-            refusal: Refusal::NotFinite,
-        }
-    }
-}
-
 // The physical value of a coordinate, in a unit that is finite and positive.
 pub fn physical_value(u: Unit) -> PhysicalValue
     ensures { λ r. ⌜ physicalOf r ≡ physicalValue u ⌝ }
@@ -302,36 +277,72 @@ pub fn physical_value(u: Unit) -> PhysicalValue
     }
 }
 
-// A coordinate to the grid: an integer whose unit equals d passes unchanged. A physical value that is not finite is refused by the test of its quotient.
-pub fn convert_unit(policy: GdsRoundingPolicy, d: f64, u: Unit) -> Conversion
-    ensures { λ r. ⌜ ((at : Spot) → outcome at r ≡ convertUnit policy d at u) ⌝ }
-{
-    if let Unit::Integer { value, units } = u {
-        if units == d {
-            return Conversion::Converted { value };
+impl CoordinateConverter {
+    // The database value of a physical value, whatever field it stands in.
+    pub fn database_value(self, p: f64) -> DatabaseValue
+        ensures { λ r. ⌜ valueOf r ≡ databaseValue (self .policy) (self .d) p ⌝ }
+    {
+        let policy = self.policy;
+        let s = p / self.d;
+        if binary64::is_finite(s) {
+            grid_value(policy, s)
+        } else {
+            DatabaseValue::Refused {
+                refusal: Refusal::NotFinite,
+            }
         }
     }
-    if binary64::is_positive(u.units()) {
-        return convert_physical(policy, d, u.absolute_value());
-    }
-    Conversion::Refused {
-        refusal: Refusal::SourceUnit,
-    }
-}
 
-// An array's endpoint: origin + count * spacing in whole numbers, with its physical value p.
-pub fn checked_array_endpoint(d: f64, origin: i32, spacing: i32, count: u32, p: f64) -> Conversion
-    ensures { λ r. ⌜ ((at : Spot) → outcome at r ≡ arrayEndpoint d at origin spacing count p) ⌝ }
-{
-    if binary64::is_finite(p) {
-        let z = (origin as i64) + (spacing as i64) * (count as i64);
-        match ranged(z) {
-            DatabaseValue::Refused { refusal } => Conversion::Refused { refusal },
-            DatabaseValue::At { value } => quantization(d, p, p / d, value),
+    // A physical value to the grid.
+    pub fn convert_physical(self, p: f64) -> Conversion
+        ensures { λ r. ⌜ ((at : Spot) → outcome at r ≡ convertPhysical (self .policy) (self .d) at p) ⌝ }
+    {
+        let policy = self.policy;
+        let s = p / self.d;
+        if binary64::is_finite(s) {
+            match grid_value(policy, s) {
+                DatabaseValue::Refused { refusal } => Conversion::Refused { refusal },
+                DatabaseValue::At { value } => quantization(self.d, p, s, value),
+            }
+        } else {
+            Conversion::Refused {
+                refusal: Refusal::NotFinite,
+            }
         }
-    } else {
+    }
+
+    // A coordinate to the grid: an integer whose unit equals d passes unchanged. A physical value that is not finite is refused by the test of its quotient.
+    pub fn convert_unit(self, u: Unit) -> Conversion
+        ensures { λ r. ⌜ ((at : Spot) → outcome at r ≡ convertUnit (self .policy) (self .d) at u) ⌝ }
+    {
+        let d = self.d;
+        if let Unit::Integer { value, units } = u {
+            if units == d {
+                return Conversion::Converted { value };
+            }
+        }
+        if binary64::is_positive(u.units()) {
+            return self.convert_physical(u.absolute_value());
+        }
         Conversion::Refused {
-            refusal: Refusal::NotFinite,
+            refusal: Refusal::SourceUnit,
+        }
+    }
+
+    // An array's endpoint: origin + count * spacing in whole numbers, with its physical value p.
+    pub fn checked_array_endpoint(self, origin: i32, spacing: i32, count: u32, p: f64) -> Conversion
+        ensures { λ r. ⌜ ((at : Spot) → outcome at r ≡ arrayEndpoint (self .d) at origin spacing count p) ⌝ }
+    {
+        if binary64::is_finite(p) {
+            let z = (origin as i64) + (spacing as i64) * (count as i64);
+            match ranged(z) {
+                DatabaseValue::Refused { refusal } => Conversion::Refused { refusal },
+                DatabaseValue::At { value } => quantization(self.d, p, p / self.d, value),
+            }
+        } else {
+            Conversion::Refused {
+                refusal: Refusal::NotFinite,
+            }
         }
     }
 }

@@ -12,9 +12,9 @@ ghost use Rattle.records.specs.code.Bytes.{Recorded};
 ghost use Rattle.forms.specs.code.Place.{unitAt, pointAt, coordinateLength, pointLength};
 ghost use Rattle.coordinate.specs.code.Coordinate.{Values, Converts, both, plainOf};
 use conversion::Conversion;
+use conversion::CoordinateConverter;
 use conversion::Deviation;
 use conversion::Entry;
-use conversion::GdsRoundingPolicy;
 use refusal::Refusal;
 
 // The bytes of an XY of one point.
@@ -65,17 +65,16 @@ pub fn record_quantization(c: Conversion, field: u8, axis: u8, place: u16, entry
 }
 
 // The coordinate at a place of the block, to the grid.
-pub fn convert_at(policy: GdsRoundingPolicy, d: f64, b: &[u8], at: usize) -> Conversion
+pub fn convert_at(converter: CoordinateConverter, b: &[u8], at: usize) -> Conversion
     requires { ⌜ at + coordinateLength ≤ length (now b) ⌝ }
-    ensures { λ r. ⌜ ((s : Spot) → outcome s r ≡ convertUnit policy d s (unitAt (now (b .entry)) at)) ⌝ }
+    ensures { λ r. ⌜ ((s : Spot) → outcome s r ≡ convertUnit (converter .policy) (converter .d) s (unitAt (now (b .entry)) at)) ⌝ }
 {
-    conversion::convert_unit(policy, d, forms::unit_at(b, at))
+    converter.convert_unit(forms::unit_at(b, at))
 }
 
 // The same, in its place.
 pub fn convert_coordinate(
-    policy: GdsRoundingPolicy,
-    d: f64,
+    converter: CoordinateConverter,
     b: &[u8],
     at: usize,
     field: u8,
@@ -85,9 +84,9 @@ pub fn convert_coordinate(
 ) -> Valued
     requires { ⌜ at + coordinateLength ≤ length (now b) ⌝ }
     requires { ⌜ entry .count < 4294967295 ⌝ }
-    ensures { λ r. ⌜ Values entry (convertUnit policy d (spot field axis place) (unitAt (now (b .entry)) at)) r ⌝ }
+    ensures { λ r. ⌜ Values entry (convertUnit (converter .policy) (converter .d) (spot field axis place) (unitAt (now (b .entry)) at)) r ⌝ }
 {
-    let c = convert_at(policy, d, b, at);
+    let c = convert_at(converter, b, at);
     record_quantization(c, field, axis, place, entry)
 }
 
@@ -125,8 +124,7 @@ pub fn plain_point(cx: Conversion, cy: Conversion) -> Plain
 
 // The point at a place of the block.
 pub fn convert_point(
-    policy: GdsRoundingPolicy,
-    d: f64,
+    converter: CoordinateConverter,
     b: &[u8],
     at: usize,
     field: u8,
@@ -135,10 +133,10 @@ pub fn convert_point(
 ) -> Pointed
     requires { ⌜ at + pointLength ≤ length (now b) ⌝ }
     requires { ⌜ entry .count < 4294967294 ⌝ }
-    ensures { λ r. ⌜ Converts entry (writePoint policy d field place (pointAt (now (b .entry)) at)) r ⌝ }
+    ensures { λ r. ⌜ Converts entry (writePoint (converter .policy) (converter .d) field place (pointAt (now (b .entry)) at)) r ⌝ }
 {
-    let cx = convert_at(policy, d, b, at);
-    let cy = convert_at(policy, d, b, at + forms::COORDINATE);
+    let cx = convert_at(converter, b, at);
+    let cy = convert_at(converter, b, at + forms::COORDINATE);
     record_point(cx, cy, field, place, entry)
 }
 

@@ -1,6 +1,6 @@
 // One element: a block of the sheet measured, and written (`write_element_with_field_prefix` of write/mod.rs).
+use conversion::CoordinateConverter;
 use conversion::Entry;
-use conversion::GdsRoundingPolicy;
 use forms::BodyPlaces;
 use forms::ElementForm;
 use forms::PropertyPlaces;
@@ -46,24 +46,22 @@ fn kind_of(b: &[u8], body: BodyPlaces) -> u8
 
 // All but the properties, by the kind.
 fn measure_body(
-    policy: GdsRoundingPolicy,
-    d: f64,
+    converter: CoordinateConverter,
     b: &[u8],
     body: BodyPlaces,
     entry: Entry,
 ) -> Measured
     requires { ⌜ BodyIn (now b) body ⌝ }
     requires { ⌜ entry .count ≤ 13 ⌝ }
-    ensures { λ r. ⌜ Measures bodyBytes entry (writeBody policy d (bodyAt (now (b .entry)) body)) r ⌝ }
+    ensures { λ r. ⌜ Measures bodyBytes entry (writeBody (converter .policy) (converter .d) (bodyAt (now (b .entry)) body)) r ⌝ }
 {
     match body {
-        BodyPlaces::Polygon { shape } => polygon_node::measure_polygon(policy, d, b, shape, entry),
-        BodyPlaces::Path { path } => path::measure_path(policy, d, b, path, entry),
-        BodyPlaces::Text { text } => text::measure_text(policy, d, b, text, entry),
-        BodyPlaces::Node { shape: node } => polygon_node::measure_node(policy, d, b, node, entry),
+        BodyPlaces::Polygon { shape } => polygon_node::measure_polygon(converter, b, shape, entry),
+        BodyPlaces::Path { path } => path::measure_path(converter, b, path, entry),
+        BodyPlaces::Text { text } => text::measure_text(converter, b, text, entry),
+        BodyPlaces::Node { shape: node } => polygon_node::measure_node(converter, b, node, entry),
         BodyPlaces::Reference { reference } => reference::measure_reference(
-            policy,
-            d,
+            converter,
             b,
             reference,
             entry,
@@ -73,8 +71,7 @@ fn measure_body(
 
 // Its body, then its properties.
 fn measure_parts(
-    policy: GdsRoundingPolicy,
-    d: f64,
+    converter: CoordinateConverter,
     b: &[u8],
     body: BodyPlaces,
     properties: PropertyPlaces,
@@ -83,10 +80,10 @@ fn measure_parts(
     requires { ⌜ length (now b) ≤ maxSheetLength ⌝ }
     requires { ⌜ ElementIn (now b) body properties ⌝ }
     requires { ⌜ entry .count ≤ 13 ⌝ }
-    ensures { λ r. ⌜ Measures elementBytes entry (writeElement policy d (record { body = bodyAt (now (b .entry)) body; properties = propertiesAt (now (b .entry)) properties })) r ⌝ }
+    ensures { λ r. ⌜ Measures elementBytes entry (writeElement (converter .policy) (converter .d) (record { body = bodyAt (now (b .entry)) body; properties = propertiesAt (now (b .entry)) properties })) r ⌝ }
     ensures { λ r. ⌜ Short (length (now (b .entry))) r ⌝ }
 {
-    match measure_body(policy, d, b, body, entry) {
+    match measure_body(converter, b, body, entry) {
         Measured::Refused { refusal } => Measured::Refused { refusal },
         Measured::Through { length, entry: e } => match properties::measure_tail(
             b,
@@ -110,9 +107,9 @@ fn measure_parts(
 }
 
 // The block's form first.
-pub fn measure_element(policy: GdsRoundingPolicy, d: f64, b: &[u8], index: u32) -> Measured
+pub fn measure_element(converter: CoordinateConverter, b: &[u8], index: u32) -> Measured
     requires { ⌜ length (now b) ≤ maxSheetLength ⌝ }
-    ensures { λ r. ⌜ r ≡ measuredBlock policy d index (elementOf (now (b .entry))) ⌝ }
+    ensures { λ r. ⌜ r ≡ measuredBlock (converter .policy) (converter .d) index (elementOf (now (b .entry))) ⌝ }
     ensures { λ r. ⌜ Short (length (now (b .entry))) r ⌝ }
 {
     match forms::element(b) {
@@ -120,8 +117,7 @@ pub fn measure_element(policy: GdsRoundingPolicy, d: f64, b: &[u8], index: u32) 
             refusal: Refusal::Form,
         },
         ElementForm::Element { body, properties } => measure_parts(
-            policy,
-            d,
+            converter,
             b,
             body,
             properties,
@@ -134,34 +130,31 @@ pub fn measure_element(policy: GdsRoundingPolicy, d: f64, b: &[u8], index: u32) 
 
 // All but the properties, by the kind, at the start of the part.
 fn put_body(
-    policy: GdsRoundingPolicy,
-    d: f64,
+    converter: CoordinateConverter,
     b: &[u8],
     body: BodyPlaces,
     part: &mut [u8],
     entry: Entry,
 ) -> Written
     requires { ⌜ BodyIn (now b) body ⌝ }
-    requires { ⌜ Succeeds (writeBody policy d (bodyAt (now b) body)) ⌝ }
+    requires { ⌜ Succeeds (writeBody (converter .policy) (converter .d) (bodyAt (now b) body)) ⌝ }
     requires { ⌜ entry .count ≤ 13 ⌝ }
     requires { ⌜ bodyLength (now b) body ≤ length (now part) ⌝ }
-    ensures { λ r. ⌜ Writes bodyBytes entry (writeBody policy d (bodyAt (now (b .entry)) body)) 0 (now (part .entry)) (now (part .exit)) r ⌝ }
+    ensures { λ r. ⌜ Writes bodyBytes entry (writeBody (converter .policy) (converter .d) (bodyAt (now (b .entry)) body)) 0 (now (part .entry)) (now (part .exit)) r ⌝ }
 {
     match body {
         BodyPlaces::Polygon { shape } => polygon_node::put_polygon(
-            policy,
-            d,
+            converter,
             b,
             shape,
             part,
             0,
             entry,
         ),
-        BodyPlaces::Path { path } => path::put_path(policy, d, b, path, part, 0, entry),
-        BodyPlaces::Text { text } => text::put_text(policy, d, b, text, part, 0, entry),
+        BodyPlaces::Path { path } => path::put_path(converter, b, path, part, 0, entry),
+        BodyPlaces::Text { text } => text::put_text(converter, b, text, part, 0, entry),
         BodyPlaces::Node { shape: node } => polygon_node::put_node(
-            policy,
-            d,
+            converter,
             b,
             node,
             part,
@@ -169,8 +162,7 @@ fn put_body(
             entry,
         ),
         BodyPlaces::Reference { reference } => reference::put_reference(
-            policy,
-            d,
+            converter,
             b,
             reference,
             part,
@@ -181,15 +173,9 @@ fn put_body(
 }
 
 // The block's element into the part of the output that starts where the last one ended.
-pub fn put_element(
-    policy: GdsRoundingPolicy,
-    d: f64,
-    b: &[u8],
-    index: u32,
-    part: &mut [u8],
-) -> Written
-    requires { ⌜ Fits policy d (now b) (length (now part)) ⌝ }
-    ensures { λ r. ⌜ WritesBlock policy d index (now (b .entry)) (now (part .entry)) (now (part .exit)) r ⌝ }
+pub fn put_element(converter: CoordinateConverter, b: &[u8], index: u32, part: &mut [u8]) -> Written
+    requires { ⌜ Fits (converter .policy) (converter .d) (now b) (length (now part)) ⌝ }
+    ensures { λ r. ⌜ WritesBlock (converter .policy) (converter .d) index (now (b .entry)) (now (part .entry)) (now (part .exit)) r ⌝ }
 {
     let ElementForm::Element { body, properties } = forms::element(b) else {
         // Never: the block holds an element.
@@ -199,7 +185,7 @@ pub fn put_element(
         };
     };
     let kind = kind_of(b, body);
-    let written = put_body(policy, d, b, body, part, Entry::blank(index, kind));
+    let written = put_body(converter, b, body, part, Entry::blank(index, kind));
     properties::put_tail(
         b,
         properties.place,

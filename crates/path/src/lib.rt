@@ -14,8 +14,8 @@ ghost use Rattle.forms.specs.code.Place.{coordinateAt, coordinateLength};
 ghost use Rattle.forms.specs.code.Forms.{pathTypeOf, pathAt, PathIn};
 ghost use Rattle.path.specs.code.Front.{extent, writeExtent, writeFront, GivesLength, GivesExtent};
 ghost use Rattle.path.specs.code.Length.{pathBytes, extentRecords, pathHead, extentLength, headLength, HeadSize, pathLength};
+use conversion::CoordinateConverter;
 use conversion::Entry;
-use conversion::GdsRoundingPolicy;
 use coordinate::Valued;
 use forms::PathPlaces;
 use points::Walked;
@@ -79,8 +79,7 @@ enum Lengths {
 
 // The length at a place of the block.
 fn convert_length(
-    policy: GdsRoundingPolicy,
-    d: f64,
+    converter: CoordinateConverter,
     b: &[u8],
     at: usize,
     field: u8,
@@ -88,7 +87,7 @@ fn convert_length(
 ) -> Length
     requires { ⌜ at + coordinateLength ≤ length (now b) ⌝ }
     requires { ⌜ entry .count < 4294967295 ⌝ }
-    ensures { λ r. ⌜ GivesLength (isSome (coordinateAt (now (b .entry)) at)) entry (writeLength policy d field (coordinateAt (now (b .entry)) at)) r ⌝ }
+    ensures { λ r. ⌜ GivesLength (isSome (coordinateAt (now (b .entry)) at)) entry (writeLength (converter .policy) (converter .d) field (coordinateAt (now (b .entry)) at)) r ⌝ }
 {
     if forms::is_absent(b, at) {
         return Length::At {
@@ -97,7 +96,7 @@ fn convert_length(
             entry,
         };
     }
-    match coordinate::convert_coordinate(policy, d, b, at, field, conversion::NO_AXIS, 0, entry) {
+    match coordinate::convert_coordinate(converter, b, at, field, conversion::NO_AXIS, 0, entry) {
         Valued::Refused { refusal } => Length::Refused { refusal },
         Valued::At { value, entry: e } => Length::At {
             there: true,
@@ -109,31 +108,30 @@ fn convert_length(
 
 // Width, begin and end, in this order.
 fn convert_lengths(
-    policy: GdsRoundingPolicy,
-    d: f64,
+    converter: CoordinateConverter,
     b: &[u8],
     path: PathPlaces,
     entry: Entry,
 ) -> Lengths
     requires { ⌜ PathIn (now b) path ⌝ }
     requires { ⌜ entry .count ≤ 13 ⌝ }
-    ensures { λ r. ⌜ GivesExtent (pathAt (now (b .entry)) path) entry (writeExtent policy d (pathAt (now (b .entry)) path)) r ⌝ }
+    ensures { λ r. ⌜ GivesExtent (pathAt (now (b .entry)) path) entry (writeExtent (converter .policy) (converter .d) (pathAt (now (b .entry)) path)) r ⌝ }
 {
-    match convert_length(policy, d, b, path.width, conversion::WIDTH_FIELD, entry) {
+    match convert_length(converter, b, path.width, conversion::WIDTH_FIELD, entry) {
         Length::Refused { refusal } => Lengths::Refused { refusal },
         Length::At {
             there: wide,
             value: width,
             entry: e1,
         } => {
-            match convert_length(policy, d, b, path.begin, conversion::BEGIN_FIELD, e1) {
+            match convert_length(converter, b, path.begin, conversion::BEGIN_FIELD, e1) {
                 Length::Refused { refusal: refusal2 } => Lengths::Refused { refusal: refusal2 },
                 Length::At {
                     there: begun,
                     value: begin,
                     entry: e2,
                 } => {
-                    match convert_length(policy, d, b, path.end, conversion::END_FIELD, e2) {
+                    match convert_length(converter, b, path.end, conversion::END_FIELD, e2) {
                         Length::Refused { refusal: refusal3 } => Lengths::Refused {
                             refusal: refusal3,
                         },
@@ -159,15 +157,14 @@ fn convert_lengths(
 
 // The checks, then the lengths.
 fn convert_front(
-    policy: GdsRoundingPolicy,
-    d: f64,
+    converter: CoordinateConverter,
     b: &[u8],
     path: PathPlaces,
     entry: Entry,
 ) -> Lengths
     requires { ⌜ PathIn (now b) path ⌝ }
     requires { ⌜ entry .count ≤ 13 ⌝ }
-    ensures { λ r. ⌜ GivesExtent (pathAt (now (b .entry)) path) entry (writeFront policy d (pathAt (now (b .entry)) path)) r ⌝ }
+    ensures { λ r. ⌜ GivesExtent (pathAt (now (b .entry)) path) entry (writeFront (converter .policy) (converter .d) (pathAt (now (b .entry)) path)) r ⌝ }
 {
     if !validation::within(MIN_PATH_POINTS, path.count, MAX_POINTS) {
         return Lengths::Refused {
@@ -184,7 +181,7 @@ fn convert_front(
             refusal: Refusal::LayerOrType,
         };
     }
-    convert_lengths(policy, d, b, path, entry)
+    convert_lengths(converter, b, path, entry)
 }
 
 // Whether the sheet's byte is a path type.
@@ -216,17 +213,16 @@ fn head_length(typed: bool, wide: bool, begun: bool, ended: bool) -> usize
 
 // The first refusal, or the length of all records and the entry.
 pub fn measure_path(
-    policy: GdsRoundingPolicy,
-    d: f64,
+    converter: CoordinateConverter,
     b: &[u8],
     path: PathPlaces,
     entry: Entry,
 ) -> Measured
     requires { ⌜ PathIn (now b) path ⌝ }
     requires { ⌜ entry .count ≤ 13 ⌝ }
-    ensures { λ r. ⌜ Measures pathBytes entry (writePath policy d (pathAt (now (b .entry)) path)) r ⌝ }
+    ensures { λ r. ⌜ Measures pathBytes entry (writePath (converter .policy) (converter .d) (pathAt (now (b .entry)) path)) r ⌝ }
 {
-    match convert_front(policy, d, b, path, entry) {
+    match convert_front(converter, b, path, entry) {
         Lengths::Refused { refusal } => Measured::Refused { refusal },
         Lengths::At {
             wide,
@@ -238,7 +234,7 @@ pub fn measure_path(
             entry: e,
         } => {
             let n = head_length(has_path_type(path.pathtype), wide, begun, ended);
-            match points::measure_points(policy, d, b, path.points, path.count, e) {
+            match points::measure_points(converter, b, path.points, path.count, e) {
                 Walked::Refused { refusal: refusal2 } => Measured::Refused { refusal: refusal2 },
                 Walked::Through {
                     x0: _,
@@ -304,8 +300,7 @@ fn put_head(
 
 // All records from a place of the output on: every length is converted before the first byte is written.
 pub fn put_path(
-    policy: GdsRoundingPolicy,
-    d: f64,
+    converter: CoordinateConverter,
     b: &[u8],
     path: PathPlaces,
     out: &mut [u8],
@@ -313,12 +308,12 @@ pub fn put_path(
     entry: Entry,
 ) -> Written
     requires { ⌜ PathIn (now b) path ⌝ }
-    requires { ⌜ Succeeds (writePath policy d (pathAt (now b) path)) ⌝ }
+    requires { ⌜ Succeeds (writePath (converter .policy) (converter .d) (pathAt (now b) path)) ⌝ }
     requires { ⌜ entry .count ≤ 13 ⌝ }
     requires { ⌜ start + pathLength (pathAt (now b) path) ≤ length (now out) ⌝ }
-    ensures { λ r. ⌜ Writes pathBytes entry (writePath policy d (pathAt (now (b .entry)) path)) start (now (out .entry)) (now (out .exit)) r ⌝ }
+    ensures { λ r. ⌜ Writes pathBytes entry (writePath (converter .policy) (converter .d) (pathAt (now (b .entry)) path)) start (now (out .entry)) (now (out .exit)) r ⌝ }
 {
-    match convert_lengths(policy, d, b, path, entry) {
+    match convert_lengths(converter, b, path, entry) {
         // Never: no length is refused.
         Lengths::Refused { refusal: _ } => Written { to: start, entry },
         Lengths::At {
@@ -343,7 +338,7 @@ pub fn put_path(
                 ended,
                 end,
             );
-            points::put_points(policy, d, b, path.points, path.count, out, xy, e)
+            points::put_points(converter, b, path.points, path.count, out, xy, e)
         }
     }
 }

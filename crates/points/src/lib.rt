@@ -15,8 +15,8 @@ ghost use Rattle.points.specs.declared.Walked.the-variants as W;
 ghost use Rattle.cell.specs.Limits.{maxPoints};
 ghost use Rattle.points.specs.code.Integers.{integerAt, integersFrom, AllPass};
 ghost use Rattle.points.specs.code.Walk.{through, walked};
+use conversion::CoordinateConverter;
 use conversion::Entry;
-use conversion::GdsRoundingPolicy;
 use conversion::POINT_FIELD;
 use coordinate::Plain;
 use coordinate::Pointed;
@@ -124,8 +124,7 @@ fn put_integers(b: &[u8], from: usize, n: usize, out: &mut [u8], start: usize) -
 
 // The points from place 1 on, after the first.
 fn measure_rest(
-    policy: GdsRoundingPolicy,
-    d: f64,
+    converter: CoordinateConverter,
     b: &[u8],
     from: usize,
     n: usize,
@@ -137,7 +136,7 @@ fn measure_rest(
     requires { ⌜ 1 ≤ n ⌝ }
     requires { ⌜ n ≤ maxPoints ⌝ }
     requires { ⌜ entry .count ≤ 18 ⌝ }
-    ensures { λ r. ⌜ r ≡ run W.Refused entry (writePoints policy d 1 (pointsFrom (n - 1) (now (b .entry)) from)) (through (record { x = x0; y = y0 }) (record { x = x0; y = y0 })) ⌝ }
+    ensures { λ r. ⌜ r ≡ run W.Refused entry (writePoints (converter .policy) (converter .d) 1 (pointsFrom (n - 1) (now (b .entry)) from)) (through (record { x = x0; y = y0 }) (record { x = x0; y = y0 })) ⌝ }
 {
     let mut i: usize = 1;
     let mut at = from;
@@ -145,8 +144,8 @@ fn measure_rest(
     let mut y1 = y0;
     let mut e = entry;
     while i < n {
-        let cx = coordinate::convert_at(policy, d, b, at);
-        let cy = coordinate::convert_at(policy, d, b, at + COORDINATE);
+        let cx = coordinate::convert_at(converter, b, at);
+        let cy = coordinate::convert_at(converter, b, at + COORDINATE);
         match coordinate::plain_point(cx, cy) {
             Plain::At { x, y } => {
                 x1 = x;
@@ -177,8 +176,7 @@ fn measure_rest(
 
 // All points: the first refusal, or the ends and the entry. An element converts at most three lengths before its points.
 pub fn measure_points(
-    policy: GdsRoundingPolicy,
-    d: f64,
+    converter: CoordinateConverter,
     b: &[u8],
     from: usize,
     n: usize,
@@ -188,14 +186,14 @@ pub fn measure_points(
     requires { ⌜ 1 ≤ n ⌝ }
     requires { ⌜ n ≤ maxPoints ⌝ }
     requires { ⌜ entry .count ≤ 16 ⌝ }
-    ensures { λ r. ⌜ r ≡ run W.Refused entry (writePoints policy d 0 (pointsFrom n (now (b .entry)) from)) walked ⌝ }
+    ensures { λ r. ⌜ r ≡ run W.Refused entry (writePoints (converter .policy) (converter .d) 0 (pointsFrom n (now (b .entry)) from)) walked ⌝ }
 {
-    if all_pass(d, b, from, n) {
+    if all_pass(converter.d, b, from, n) {
         return integer_ends(b, from, n, entry);
     }
-    match coordinate::convert_point(policy, d, b, from, POINT_FIELD, 0, entry) {
+    match coordinate::convert_point(converter, b, from, POINT_FIELD, 0, entry) {
         Pointed::Refused { refusal } => Walked::Refused { refusal },
-        Pointed::At { x, y, entry: e } => measure_rest(policy, d, b, from + POINT, n, x, y, e),
+        Pointed::At { x, y, entry: e } => measure_rest(converter, b, from + POINT, n, x, y, e),
     }
 }
 
@@ -203,8 +201,7 @@ pub fn measure_points(
 
 // All points in turn, converted.
 fn put_converted(
-    policy: GdsRoundingPolicy,
-    d: f64,
+    converter: CoordinateConverter,
     b: &[u8],
     from: usize,
     n: usize,
@@ -214,18 +211,18 @@ fn put_converted(
 ) -> Written
     requires { ⌜ from + pointLength * n ≤ length (now b) ⌝ }
     requires { ⌜ n ≤ maxPoints ⌝ }
-    requires { ⌜ Succeeds (writePoints policy d 0 (pointsFrom n (now b) from)) ⌝ }
+    requires { ⌜ Succeeds (writePoints (converter .policy) (converter .d) 0 (pointsFrom n (now b) from)) ⌝ }
     requires { ⌜ start + 8 * n ≤ length (now out) ⌝ }
     requires { ⌜ entry .count ≤ 16 ⌝ }
-    ensures { λ r. ⌜ Writes pointsBytes entry (writePoints policy d 0 (pointsFrom n (now (b .entry)) from)) start (now (out .entry)) (now (out .exit)) r ⌝ }
+    ensures { λ r. ⌜ Writes pointsBytes entry (writePoints (converter .policy) (converter .d) 0 (pointsFrom n (now (b .entry)) from)) start (now (out .entry)) (now (out .exit)) r ⌝ }
 {
     let mut i: usize = 0;
     let mut at = from;
     let mut to = start;
     let mut e = entry;
     while i < n {
-        let cx = coordinate::convert_at(policy, d, b, at);
-        let cy = coordinate::convert_at(policy, d, b, at + COORDINATE);
+        let cx = coordinate::convert_at(converter, b, at);
+        let cy = coordinate::convert_at(converter, b, at + COORDINATE);
         match coordinate::plain_point(cx, cy) {
             Plain::At { x, y } => {
                 to = coordinate::put_point(out, to, x, y);
@@ -249,8 +246,7 @@ fn put_converted(
 
 // All points, eight bytes each, from a place of the output on.
 pub fn put_points(
-    policy: GdsRoundingPolicy,
-    d: f64,
+    converter: CoordinateConverter,
     b: &[u8],
     from: usize,
     n: usize,
@@ -260,16 +256,16 @@ pub fn put_points(
 ) -> Written
     requires { ⌜ from + pointLength * n ≤ length (now b) ⌝ }
     requires { ⌜ n ≤ maxPoints ⌝ }
-    requires { ⌜ Succeeds (writePoints policy d 0 (pointsFrom n (now b) from)) ⌝ }
+    requires { ⌜ Succeeds (writePoints (converter .policy) (converter .d) 0 (pointsFrom n (now b) from)) ⌝ }
     requires { ⌜ start + 8 * n ≤ length (now out) ⌝ }
     requires { ⌜ entry .count ≤ 16 ⌝ }
-    ensures { λ r. ⌜ Writes pointsBytes entry (writePoints policy d 0 (pointsFrom n (now (b .entry)) from)) start (now (out .entry)) (now (out .exit)) r ⌝ }
+    ensures { λ r. ⌜ Writes pointsBytes entry (writePoints (converter .policy) (converter .d) 0 (pointsFrom n (now (b .entry)) from)) start (now (out .entry)) (now (out .exit)) r ⌝ }
 {
-    if all_pass(d, b, from, n) {
+    if all_pass(converter.d, b, from, n) {
         return Written {
             to: put_integers(b, from, n, out, start),
             entry,
         };
     }
-    put_converted(policy, d, b, from, n, out, start, entry)
+    put_converted(converter, b, from, n, out, start, entry)
 }

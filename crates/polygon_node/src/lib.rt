@@ -10,8 +10,8 @@ ghost use Rattle.steps.specs.code.Steps.{Measures, Succeeds, Writes};
 ghost use Rattle.forms.specs.code.Forms.{shapeAt, ShapeIn};
 ghost use Rattle.points.specs.declared.Walked.the-variants as W;
 ghost use Rattle.polygon_node.specs.code.Shape.{shapeBytes, polygonBytes, nodeBytes, shapeHead, shapeEnds, shapeChecks, checkOf, afterChecks};
+use conversion::CoordinateConverter;
 use conversion::Entry;
-use conversion::GdsRoundingPolicy;
 use forms::ShapePlaces;
 use points::Walked;
 use refusal::Refusal;
@@ -89,8 +89,7 @@ fn is_closed(x0: i32, y0: i32, x1: i32, y1: i32) -> bool
 
 // What a polygon and a node have in common, but for their numbers of points: the ends and the entry.
 fn measure_shape(
-    policy: GdsRoundingPolicy,
-    d: f64,
+    converter: CoordinateConverter,
     b: &[u8],
     places: ShapePlaces,
     least: usize,
@@ -101,27 +100,26 @@ fn measure_shape(
     requires { ⌜ 1 ≤ least ⌝ }
     requires { ⌜ most ≤ maxPoints ⌝ }
     requires { ⌜ entry .count ≤ 16 ⌝ }
-    ensures { λ r. ⌜ r ≡ run W.Refused entry (writeShape policy d least most (shapeAt (now (b .entry)) places)) shapeEnds ⌝ }
+    ensures { λ r. ⌜ r ≡ run W.Refused entry (writeShape (converter .policy) (converter .d) least most (shapeAt (now (b .entry)) places)) shapeEnds ⌝ }
 {
     match check_shape(places, least, most) {
         Check::Refused { refusal } => Walked::Refused { refusal },
-        Check::Passed => points::measure_points(policy, d, b, places.points, places.count, entry),
+        Check::Passed => points::measure_points(converter, b, places.points, places.count, entry),
     }
 }
 
 // All points, then the ends.
 pub fn measure_polygon(
-    policy: GdsRoundingPolicy,
-    d: f64,
+    converter: CoordinateConverter,
     b: &[u8],
     places: ShapePlaces,
     entry: Entry,
 ) -> Measured
     requires { ⌜ ShapeIn (now b) places ⌝ }
     requires { ⌜ entry .count ≤ 16 ⌝ }
-    ensures { λ r. ⌜ Measures polygonBytes entry (writePolygon policy d (shapeAt (now (b .entry)) places)) r ⌝ }
+    ensures { λ r. ⌜ Measures polygonBytes entry (writePolygon (converter .policy) (converter .d) (shapeAt (now (b .entry)) places)) r ⌝ }
 {
-    match measure_shape(policy, d, b, places, MIN_POLYGON_POINTS, MAX_POINTS, entry) {
+    match measure_shape(converter, b, places, MIN_POLYGON_POINTS, MAX_POINTS, entry) {
         Walked::Refused { refusal } => Measured::Refused { refusal },
         Walked::Through {
             x0,
@@ -144,19 +142,17 @@ pub fn measure_polygon(
 }
 
 pub fn measure_node(
-    policy: GdsRoundingPolicy,
-    d: f64,
+    converter: CoordinateConverter,
     b: &[u8],
     places: ShapePlaces,
     entry: Entry,
 ) -> Measured
     requires { ⌜ ShapeIn (now b) places ⌝ }
     requires { ⌜ entry .count ≤ 16 ⌝ }
-    ensures { λ r. ⌜ Measures nodeBytes entry (writeNode policy d (shapeAt (now (b .entry)) places)) r ⌝ }
+    ensures { λ r. ⌜ Measures nodeBytes entry (writeNode (converter .policy) (converter .d) (shapeAt (now (b .entry)) places)) r ⌝ }
 {
     match measure_shape(
-        policy,
-        d,
+        converter,
         b,
         places,
         MIN_NODE_POINTS,
@@ -200,8 +196,7 @@ fn put_shape_head(
 
 // What a polygon and a node have in common, but for their record codes: the records up to the points, then the points.
 fn put_shape(
-    policy: GdsRoundingPolicy,
-    d: f64,
+    converter: CoordinateConverter,
     b: &[u8],
     places: ShapePlaces,
     code: u8,
@@ -212,10 +207,10 @@ fn put_shape(
 ) -> Written
     requires { ⌜ ShapeIn (now b) places ⌝ }
     requires { ⌜ places .count ≤ maxPoints ⌝ }
-    requires { ⌜ Succeeds (afterChecks policy d (shapeAt (now b) places)) ⌝ }
+    requires { ⌜ Succeeds (afterChecks (converter .policy) (converter .d) (shapeAt (now b) places)) ⌝ }
     requires { ⌜ start + (20 + 8 * places .count) ≤ length (now out) ⌝ }
     requires { ⌜ entry .count ≤ 16 ⌝ }
-    ensures { λ r. ⌜ Writes (shapeBytes code «type_code») entry (afterChecks policy d (shapeAt (now (b .entry)) places)) start (now (out .entry)) (now (out .exit)) r ⌝ }
+    ensures { λ r. ⌜ Writes (shapeBytes code «type_code») entry (afterChecks (converter .policy) (converter .d) (shapeAt (now (b .entry)) places)) start (now (out .entry)) (now (out .exit)) r ⌝ }
 {
     let len = (RECORD_HEAD + XY_POINT * places.count) as u16;
     let to = put_shape_head(
@@ -227,12 +222,11 @@ fn put_shape(
         places.datatype,
         len,
     );
-    points::put_points(policy, d, b, places.points, places.count, out, to, entry)
+    points::put_points(converter, b, places.points, places.count, out, to, entry)
 }
 
 pub fn put_polygon(
-    policy: GdsRoundingPolicy,
-    d: f64,
+    converter: CoordinateConverter,
     b: &[u8],
     places: ShapePlaces,
     out: &mut [u8],
@@ -240,14 +234,13 @@ pub fn put_polygon(
     entry: Entry,
 ) -> Written
     requires { ⌜ ShapeIn (now b) places ⌝ }
-    requires { ⌜ Succeeds (writePolygon policy d (shapeAt (now b) places)) ⌝ }
+    requires { ⌜ Succeeds (writePolygon (converter .policy) (converter .d) (shapeAt (now b) places)) ⌝ }
     requires { ⌜ start + (20 + 8 * places .count) ≤ length (now out) ⌝ }
     requires { ⌜ entry .count ≤ 16 ⌝ }
-    ensures { λ r. ⌜ Writes polygonBytes entry (writePolygon policy d (shapeAt (now (b .entry)) places)) start (now (out .entry)) (now (out .exit)) r ⌝ }
+    ensures { λ r. ⌜ Writes polygonBytes entry (writePolygon (converter .policy) (converter .d) (shapeAt (now (b .entry)) places)) start (now (out .entry)) (now (out .exit)) r ⌝ }
 {
     put_shape(
-        policy,
-        d,
+        converter,
         b,
         places,
         records::BOUNDARY,
@@ -259,8 +252,7 @@ pub fn put_polygon(
 }
 
 pub fn put_node(
-    policy: GdsRoundingPolicy,
-    d: f64,
+    converter: CoordinateConverter,
     b: &[u8],
     places: ShapePlaces,
     out: &mut [u8],
@@ -268,14 +260,13 @@ pub fn put_node(
     entry: Entry,
 ) -> Written
     requires { ⌜ ShapeIn (now b) places ⌝ }
-    requires { ⌜ Succeeds (writeNode policy d (shapeAt (now b) places)) ⌝ }
+    requires { ⌜ Succeeds (writeNode (converter .policy) (converter .d) (shapeAt (now b) places)) ⌝ }
     requires { ⌜ start + (20 + 8 * places .count) ≤ length (now out) ⌝ }
     requires { ⌜ entry .count ≤ 16 ⌝ }
-    ensures { λ r. ⌜ Writes nodeBytes entry (writeNode policy d (shapeAt (now (b .entry)) places)) start (now (out .entry)) (now (out .exit)) r ⌝ }
+    ensures { λ r. ⌜ Writes nodeBytes entry (writeNode (converter .policy) (converter .d) (shapeAt (now (b .entry)) places)) start (now (out .entry)) (now (out .exit)) r ⌝ }
 {
     put_shape(
-        policy,
-        d,
+        converter,
         b,
         places,
         records::NODE,

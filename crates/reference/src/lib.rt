@@ -17,8 +17,8 @@ ghost use Rattle.steps.specs.code.Steps.{Measures, Succeeds, Writes};
 ghost use Rattle.reference.specs.code.Reference.{referenceBytes, sizeOf, singleRest, arrayRest, isSingle, referenceLength, lacking, Bounded, Checks, Encodes, afterTransform, afterChecks, turnedArray, srefOf, arefOf, Values};
 use array::Array;
 use array::Corners;
+use conversion::CoordinateConverter;
 use conversion::Entry;
-use conversion::GdsRoundingPolicy;
 use coordinate::Pointed;
 use forms::ReferencePlaces;
 use refusal::Refusal;
@@ -118,16 +118,10 @@ fn in_unit(x: f64) -> bool
 }
 
 // An array: its sine and cosine before its conversions.
-fn turned_array(
-    policy: GdsRoundingPolicy,
-    d: f64,
-    b: &[u8],
-    s: ReferencePlaces,
-    entry: Entry,
-) -> Array
+fn turned_array(converter: CoordinateConverter, b: &[u8], s: ReferencePlaces, entry: Entry) -> Array
     requires { ⌜ ReferenceIn (now b) s ⌝ }
     requires { ⌜ entry .count ≤ 16 ⌝ }
-    ensures { λ r. ⌜ r ≡ run Answer.Refused entry (turnedArray policy d (referenceAt (now (b .entry)) s)) (cornered (s .columns) (s .rows)) ⌝ }
+    ensures { λ r. ⌜ r ≡ run Answer.Refused entry (turnedArray (converter .policy) (converter .d) (referenceAt (now (b .entry)) s)) (cornered (s .columns) (s .rows)) ⌝ }
 {
     if !in_unit(s.sine) {
         return Array::Refused {
@@ -139,7 +133,7 @@ fn turned_array(
             refusal: Refusal::SineOrCosine,
         };
     }
-    array::convert_array(policy, d, b, s, entry)
+    array::convert_array(converter, b, s, entry)
 }
 
 // Whether it is 1 × 1.
@@ -154,8 +148,7 @@ fn is_single(s: ReferencePlaces) -> bool
 
 // After the transform: the origin of a 1 × 1 reference, whose spacings, sine and cosine are not looked at; else the array.
 fn place_reference(
-    policy: GdsRoundingPolicy,
-    d: f64,
+    converter: CoordinateConverter,
     b: &[u8],
     s: ReferencePlaces,
     strans: Strans,
@@ -165,12 +158,11 @@ fn place_reference(
     requires { ⌜ Bounded (now b) s ⌝ }
     requires { ⌜ Encodes s strans ⌝ }
     requires { ⌜ entry .count ≤ 16 ⌝ }
-    ensures { λ r. ⌜ Values (now (b .entry)) s entry (afterTransform policy d (referenceAt (now (b .entry)) s) (saidOf strans)) r ⌝ }
+    ensures { λ r. ⌜ Values (now (b .entry)) s entry (afterTransform (converter .policy) (converter .d) (referenceAt (now (b .entry)) s) (saidOf strans)) r ⌝ }
 {
     if is_single(s) {
         match coordinate::convert_point(
-            policy,
-            d,
+            converter,
             b,
             s.origin,
             conversion::ORIGIN_FIELD,
@@ -186,7 +178,7 @@ fn place_reference(
             },
         }
     } else {
-        match turned_array(policy, d, b, s, entry) {
+        match turned_array(converter, b, s, entry) {
             Array::Refused { refusal: refusal2 } => ReferenceValues::Refused { refusal: refusal2 },
             Array::Converted { corners, entry: e2 } => ReferenceValues::Array {
                 strans,
@@ -199,8 +191,7 @@ fn place_reference(
 
 // After the checks: the transform, and then the conversions.
 fn convert_reference(
-    policy: GdsRoundingPolicy,
-    d: f64,
+    converter: CoordinateConverter,
     b: &[u8],
     s: ReferencePlaces,
     entry: Entry,
@@ -208,29 +199,28 @@ fn convert_reference(
     requires { ⌜ ReferenceIn (now b) s ⌝ }
     requires { ⌜ Bounded (now b) s ⌝ }
     requires { ⌜ entry .count ≤ 16 ⌝ }
-    ensures { λ r. ⌜ Values (now (b .entry)) s entry (afterChecks policy d (referenceAt (now (b .entry)) s)) r ⌝ }
+    ensures { λ r. ⌜ Values (now (b .entry)) s entry (afterChecks (converter .policy) (converter .d) (referenceAt (now (b .entry)) s)) r ⌝ }
 {
     match transform::write_transformation(s.degrees, s.magnification, s.reflection) {
         Transform::Refused { refusal } => ReferenceValues::Refused { refusal },
-        Transform::Encoded { strans } => place_reference(policy, d, b, s, strans, entry),
+        Transform::Encoded { strans } => place_reference(converter, b, s, strans, entry),
     }
 }
 
 // The checks and conversions in the order of `write_reference_cell`.
 fn reference_values(
-    policy: GdsRoundingPolicy,
-    d: f64,
+    converter: CoordinateConverter,
     b: &[u8],
     s: ReferencePlaces,
     entry: Entry,
 ) -> ReferenceValues
     requires { ⌜ ReferenceIn (now b) s ⌝ }
     requires { ⌜ entry .count ≤ 16 ⌝ }
-    ensures { λ r. ⌜ Values (now (b .entry)) s entry (writeReference policy d (referenceAt (now (b .entry)) s)) r ⌝ }
+    ensures { λ r. ⌜ Values (now (b .entry)) s entry (writeReference (converter .policy) (converter .d) (referenceAt (now (b .entry)) s)) r ⌝ }
 {
     match check_reference(b, s) {
         Check::Refused { refusal } => ReferenceValues::Refused { refusal },
-        Check::Passed => convert_reference(policy, d, b, s, entry),
+        Check::Passed => convert_reference(converter, b, s, entry),
     }
 }
 
@@ -248,17 +238,16 @@ fn front_length(b: &[u8], s: ReferencePlaces, strans: Strans) -> usize
 
 // The first refusal, or the length of the records.
 pub fn measure_reference(
-    policy: GdsRoundingPolicy,
-    d: f64,
+    converter: CoordinateConverter,
     b: &[u8],
     reference: ReferencePlaces,
     entry: Entry,
 ) -> Measured
     requires { ⌜ ReferenceIn (now b) reference ⌝ }
     requires { ⌜ entry .count ≤ 16 ⌝ }
-    ensures { λ r. ⌜ Measures referenceBytes entry (writeReference policy d (referenceAt (now (b .entry)) reference)) r ⌝ }
+    ensures { λ r. ⌜ Measures referenceBytes entry (writeReference (converter .policy) (converter .d) (referenceAt (now (b .entry)) reference)) r ⌝ }
 {
-    match reference_values(policy, d, b, reference, entry) {
+    match reference_values(converter, b, reference, entry) {
         ReferenceValues::Refused { refusal } => Measured::Refused { refusal },
         ReferenceValues::Single {
             strans,
@@ -338,8 +327,7 @@ fn put_aref_at(
 
 // The records from a place of the output on; every value is known before the first byte is written.
 pub fn put_reference(
-    policy: GdsRoundingPolicy,
-    d: f64,
+    converter: CoordinateConverter,
     b: &[u8],
     reference: ReferencePlaces,
     out: &mut [u8],
@@ -347,12 +335,12 @@ pub fn put_reference(
     entry: Entry,
 ) -> Written
     requires { ⌜ ReferenceIn (now b) reference ⌝ }
-    requires { ⌜ Succeeds (writeReference policy d (referenceAt (now b) reference)) ⌝ }
+    requires { ⌜ Succeeds (writeReference (converter .policy) (converter .d) (referenceAt (now b) reference)) ⌝ }
     requires { ⌜ entry .count ≤ 16 ⌝ }
     requires { ⌜ start + referenceLength (now b) reference ≤ length (now out) ⌝ }
-    ensures { λ r. ⌜ Writes referenceBytes entry (writeReference policy d (referenceAt (now (b .entry)) reference)) start (now (out .entry)) (now (out .exit)) r ⌝ }
+    ensures { λ r. ⌜ Writes referenceBytes entry (writeReference (converter .policy) (converter .d) (referenceAt (now (b .entry)) reference)) start (now (out .entry)) (now (out .exit)) r ⌝ }
 {
-    match convert_reference(policy, d, b, reference, entry) {
+    match convert_reference(converter, b, reference, entry) {
         // Never: the reference is not refused.
         ReferenceValues::Refused { refusal: _ } => Written { to: start, entry },
         ReferenceValues::Single {

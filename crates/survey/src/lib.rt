@@ -7,7 +7,7 @@ ghost use Rattle.survey.specs.Answer.{answerOf, valuesOf};
 ghost use Rattle.survey.specs.Survey.{SurveysPitch};
 use conversion::CallerPolicy;
 use conversion::Conversion;
-use conversion::GdsRoundingPolicy;
+use conversion::CoordinateConverter;
 use refusal::Refusal;
 
 // The most places of a row.
@@ -34,10 +34,10 @@ pub enum SurveyAnswer {
 }
 
 // What conversion gives at the physical value p.
-fn place(policy: GdsRoundingPolicy, d: f64, p: f64) -> Placed
-    ensures { λ r. ⌜ ((at : Spot) → r ≡ Places.placed (convertPhysical policy d at p)) ⌝ }
+fn place(converter: CoordinateConverter, p: f64) -> Placed
+    ensures { λ r. ⌜ ((at : Spot) → r ≡ Places.placed (convertPhysical (converter .policy) (converter .d) at p)) ⌝ }
 {
-    match conversion::convert_physical(policy, d, p) {
+    match converter.convert_physical(p) {
         Conversion::Refused { refusal: _ } => Placed::Refused,
         Conversion::Converted { value: _ } => Placed::Clean,
         Conversion::Quantized {
@@ -49,15 +49,15 @@ fn place(policy: GdsRoundingPolicy, d: f64, p: f64) -> Placed
 }
 
 // The places 0 to n - 1, each by its own product.
-fn count_places(policy: GdsRoundingPolicy, d: f64, pitch: f64, n: u32) -> Counts
-    ensures { λ r. ⌜ r ≡ counted policy d pitch n ⌝ }
+fn count_places(converter: CoordinateConverter, pitch: f64, n: u32) -> Counts
+    ensures { λ r. ⌜ r ≡ counted (converter .policy) (converter .d) pitch n ⌝ }
 {
     let mut clean: u32 = 0;
     let mut due: u32 = 0;
     let mut refused: u32 = 0;
     let mut i: u32 = 0;
     while i < n {
-        match place(policy, d, (i as f64) * pitch) {
+        match place(converter, (i as f64) * pitch) {
             Placed::Clean => {
                 clean += 1;
             }
@@ -85,8 +85,8 @@ fn places_fit(n: u32) -> bool
 }
 
 // The survey under a policy: the number of places, then the pitch.
-fn survey_of(policy: GdsRoundingPolicy, d: f64, pitch: f64, n: u32) -> SurveyAnswer
-    ensures { λ r. ⌜ r ≡ answerOf (surveyOf policy d pitch n) ⌝ }
+fn survey_of(converter: CoordinateConverter, pitch: f64, n: u32) -> SurveyAnswer
+    ensures { λ r. ⌜ r ≡ answerOf (surveyOf (converter .policy) (converter .d) pitch n) ⌝ }
 {
     let fits = places_fit(n);
     let finite = binary64::is_finite(pitch);
@@ -100,7 +100,7 @@ fn survey_of(policy: GdsRoundingPolicy, d: f64, pitch: f64, n: u32) -> SurveyAns
             refusal: Refusal::NotFinite,
         };
     }
-    let counts = count_places(policy, d, pitch, n);
+    let counts = count_places(converter, pitch, n);
     SurveyAnswer::Surveyed { counts }
 }
 
@@ -110,6 +110,12 @@ pub fn survey_pitch(policy: u8, d: f64, pitch: f64, n: u32) -> SurveyAnswer
 {
     match conversion::caller_policy(policy, d) {
         CallerPolicy::Refused { refusal } => SurveyAnswer::Refused { refusal },
-        CallerPolicy::With { policy: rounding } => survey_of(rounding, d, pitch, n),
+        CallerPolicy::With { policy: rounding } => {
+            let converter = CoordinateConverter {
+                policy: rounding,
+                d,
+            };
+            survey_of(converter, pitch, n)
+        }
     }
 }

@@ -13,8 +13,8 @@ ghost use Rattle.records.specs.code.Bytes.{Placed};
 ghost use Rattle.steps.specs.code.Ready.{stopped, ready};
 ghost use Rattle.steps.specs.code.Steps.{Measures, Succeeds, Writes};
 ghost use Rattle.text.specs.code.Text.{sizeOf, textBytes, textLength, afterChecks, textOf, readyOf};
+use conversion::CoordinateConverter;
 use conversion::Entry;
-use conversion::GdsRoundingPolicy;
 use coordinate::Pointed;
 use forms::TextPlaces;
 use refusal::Refusal;
@@ -57,22 +57,20 @@ fn string_length(b: &[u8], at: usize) -> usize
 
 // The transform and the origin, after the checks.
 fn convert_text(
-    policy: GdsRoundingPolicy,
-    d: f64,
+    converter: CoordinateConverter,
     b: &[u8],
     text: TextPlaces,
     entry: Entry,
 ) -> TextValues
     requires { ⌜ TextIn (now b) text ⌝ }
     requires { ⌜ entry .count < 4294967294 ⌝ }
-    ensures { λ r. ⌜ readyOf (now (b .entry)) text r ≡ run stopped entry (afterChecks policy d (textAt (now (b .entry)) text)) ready ⌝ }
+    ensures { λ r. ⌜ readyOf (now (b .entry)) text r ≡ run stopped entry (afterChecks (converter .policy) (converter .d) (textAt (now (b .entry)) text)) ready ⌝ }
 {
     match transform::write_transformation(text.degrees, text.magnification, text.reflection) {
         Transform::Refused { refusal } => TextValues::Refused { refusal },
         Transform::Encoded { strans } => {
             match coordinate::convert_point(
-                policy,
-                d,
+                converter,
                 b,
                 text.origin,
                 conversion::ORIGIN_FIELD,
@@ -93,15 +91,14 @@ fn convert_text(
 
 // The checks and conversions in the order of `write_text_with_converter`; the text type is not limited.
 fn text_values(
-    policy: GdsRoundingPolicy,
-    d: f64,
+    converter: CoordinateConverter,
     b: &[u8],
     text: TextPlaces,
     entry: Entry,
 ) -> TextValues
     requires { ⌜ TextIn (now b) text ⌝ }
     requires { ⌜ entry .count < 4294967294 ⌝ }
-    ensures { λ r. ⌜ readyOf (now (b .entry)) text r ≡ run stopped entry (writeText policy d (textAt (now (b .entry)) text)) ready ⌝ }
+    ensures { λ r. ⌜ readyOf (now (b .entry)) text r ≡ run stopped entry (writeText (converter .policy) (converter .d) (textAt (now (b .entry)) text)) ready ⌝ }
 {
     if text.layer > MAX_LAYER {
         return TextValues::Refused {
@@ -113,22 +110,21 @@ fn text_values(
             refusal: Refusal::StringLength,
         };
     }
-    convert_text(policy, d, b, text, entry)
+    convert_text(converter, b, text, entry)
 }
 
 // The first refusal, or the length of the records.
 pub fn measure_text(
-    policy: GdsRoundingPolicy,
-    d: f64,
+    converter: CoordinateConverter,
     b: &[u8],
     text: TextPlaces,
     entry: Entry,
 ) -> Measured
     requires { ⌜ TextIn (now b) text ⌝ }
     requires { ⌜ entry .count < 4294967294 ⌝ }
-    ensures { λ r. ⌜ Measures textBytes entry (writeText policy d (textAt (now (b .entry)) text)) r ⌝ }
+    ensures { λ r. ⌜ Measures textBytes entry (writeText (converter .policy) (converter .d) (textAt (now (b .entry)) text)) r ⌝ }
 {
-    match text_values(policy, d, b, text, entry) {
+    match text_values(converter, b, text, entry) {
         TextValues::Refused { refusal } => Measured::Refused { refusal },
         TextValues::Ready {
             strans,
@@ -179,8 +175,7 @@ fn put_records_at(
 
 // The records from a place of the output on; every value is known before the first byte is written.
 pub fn put_text(
-    policy: GdsRoundingPolicy,
-    d: f64,
+    converter: CoordinateConverter,
     b: &[u8],
     text: TextPlaces,
     out: &mut [u8],
@@ -188,12 +183,12 @@ pub fn put_text(
     entry: Entry,
 ) -> Written
     requires { ⌜ TextIn (now b) text ⌝ }
-    requires { ⌜ Succeeds (writeText policy d (textAt (now b) text)) ⌝ }
+    requires { ⌜ Succeeds (writeText (converter .policy) (converter .d) (textAt (now b) text)) ⌝ }
     requires { ⌜ entry .count < 4294967294 ⌝ }
     requires { ⌜ start + textLength (now b) text ≤ length (now out) ⌝ }
-    ensures { λ r. ⌜ Writes textBytes entry (writeText policy d (textAt (now (b .entry)) text)) start (now (out .entry)) (now (out .exit)) r ⌝ }
+    ensures { λ r. ⌜ Writes textBytes entry (writeText (converter .policy) (converter .d) (textAt (now (b .entry)) text)) start (now (out .entry)) (now (out .exit)) r ⌝ }
 {
-    match convert_text(policy, d, b, text, entry) {
+    match convert_text(converter, b, text, entry) {
         // Never: the text is not refused.
         TextValues::Refused { refusal: _ } => Written { to: start, entry },
         TextValues::Ready {

@@ -1,7 +1,7 @@
 // The cell from its 4 on: the head and the blocks in turn, measured, and then written.
 use cell::Answer;
+use conversion::CoordinateConverter;
 use conversion::Entry;
-use conversion::GdsRoundingPolicy;
 use forms::HeadForm;
 use forms::HeadPlaces;
 use refusal::Refusal;
@@ -114,10 +114,10 @@ fn greater_error(g: f64, entry: Entry) -> f64
 }
 
 // Every block after the head, in turn.
-fn measure_elements(policy: GdsRoundingPolicy, d: f64, sheet: &[u8]) -> Totals
+fn measure_elements(converter: CoordinateConverter, sheet: &[u8]) -> Totals
     requires { ⌜ length (now sheet) ≤ maxSheetLength ⌝ }
     requires { ⌜ T (pairsFit (now sheet)) ⌝ }
-    ensures { λ r. ⌜ r ≡ totalsFrom 0 0 zero64 (writeBlocks policy d 0 (elementBlocks (now (sheet .entry)))) ⌝ }
+    ensures { λ r. ⌜ r ≡ totalsFrom 0 0 zero64 (writeBlocks (converter .policy) (converter .d) 0 (elementBlocks (now (sheet .entry)))) ⌝ }
     ensures { λ r. ⌜ TotalsSmall r ⌝ }
 {
     let n = big_endian::u32_at(sheet, 0) as usize;
@@ -128,7 +128,7 @@ fn measure_elements(policy: GdsRoundingPolicy, d: f64, sheet: &[u8]) -> Totals
     while k < n {
         let b = sheet::block(sheet, k);
         let index = k - 1;
-        match elements::measure_element(policy, d, b, index as u32) {
+        match elements::measure_element(converter, b, index as u32) {
             Measured::Refused { refusal } => {
                 return Totals::Refused { refusal, block: k };
             }
@@ -148,9 +148,9 @@ fn measure_elements(policy: GdsRoundingPolicy, d: f64, sheet: &[u8]) -> Totals
 }
 
 // The cell from its 4 on.
-pub fn measure_sheet(policy: GdsRoundingPolicy, d: f64, sheet: &[u8]) -> Answer
+pub fn measure_sheet(converter: CoordinateConverter, sheet: &[u8]) -> Answer
     requires { ⌜ length (now sheet) ≤ maxSheetLength ⌝ }
-    ensures { λ r. ⌜ r ≡ answerOf (writeSheet policy d (now (sheet .entry))) ⌝ }
+    ensures { λ r. ⌜ r ≡ answerOf (writeSheet (converter .policy) (converter .d) (now (sheet .entry))) ⌝ }
     ensures { λ r. ⌜ AnswerSmall r ⌝ }
 {
     if !sheet::pairs_fit(sheet) {
@@ -161,7 +161,7 @@ pub fn measure_sheet(policy: GdsRoundingPolicy, d: f64, sheet: &[u8]) -> Answer
     }
     match measure_head(sheet::block(sheet, 0)) {
         HeadMeasured::Refused { refusal } => Answer::Refused { refusal, block: 0 },
-        HeadMeasured::Through { length: front } => match measure_elements(policy, d, sheet) {
+        HeadMeasured::Through { length: front } => match measure_elements(converter, sheet) {
             Totals::Refused {
                 refusal: refusal2,
                 block,
@@ -210,16 +210,15 @@ fn put_entry(entry: Entry, lead: &[u8], report: &mut [u8], at: usize) -> usize
 
 // Every block after the head, in turn, each into the part of the output that starts where the last one ended.
 fn put_elements(
-    policy: GdsRoundingPolicy,
-    d: f64,
+    converter: CoordinateConverter,
     sheet: &[u8],
     lead: &[u8],
     out: &mut [u8],
     report: &mut [u8],
 ) -> Ends
     requires { ⌜ T (pairsFit (now sheet)) ⌝ }
-    requires { ⌜ ElementsFit policy d (now sheet) (now lead) (length (now out)) (length (now report)) ⌝ }
-    ensures { λ r. ⌜ PutsElements policy d (now (sheet .entry)) (now (lead .entry)) (now (out .entry)) (now (report .entry)) (now (out .exit)) (now (report .exit)) r ⌝ }
+    requires { ⌜ ElementsFit (converter .policy) (converter .d) (now sheet) (now lead) (length (now out)) (length (now report)) ⌝ }
+    ensures { λ r. ⌜ PutsElements (converter .policy) (converter .d) (now (sheet .entry)) (now (lead .entry)) (now (out .entry)) (now (report .entry)) (now (out .exit)) (now (report .exit)) r ⌝ }
 {
     let n = big_endian::u32_at(sheet, 0) as usize;
     let mut next: usize = 1;
@@ -227,7 +226,7 @@ fn put_elements(
     let mut at: usize = 0;
     while next < n {
         let b = sheet::block(sheet, next);
-        let written = elements::put_element(policy, d, b, (next - 1) as u32, &mut out[to..]);
+        let written = elements::put_element(converter, b, (next - 1) as u32, &mut out[to..]);
         to = to + written.to;
         at = put_entry(written.entry, lead, report, at);
         next = next + 1;
@@ -240,22 +239,21 @@ fn put_elements(
 
 // The structure of an accepted sheet, and its report, each entry after the lead; both at the start of the part that is lent.
 pub fn put_structure(
-    policy: GdsRoundingPolicy,
-    d: f64,
+    converter: CoordinateConverter,
     sheet: &[u8],
     lead: &[u8],
     out: &mut [u8],
     report: &mut [u8],
 ) -> Ends
-    requires { ⌜ StructureFits policy d (now sheet) (now lead) (length (now out)) (length (now report)) ⌝ }
-    ensures { λ r. ⌜ PutsStructure policy d (now (sheet .entry)) (now (lead .entry)) (now (out .entry)) (now (report .entry)) (now (out .exit)) (now (report .exit)) r ⌝ }
+    requires { ⌜ StructureFits (converter .policy) (converter .d) (now sheet) (now lead) (length (now out)) (length (now report)) ⌝ }
+    ensures { λ r. ⌜ PutsStructure (converter .policy) (converter .d) (now (sheet .entry)) (now (lead .entry)) (now (out .entry)) (now (report .entry)) (now (out .exit)) (now (report .exit)) r ⌝ }
 {
     let b = sheet::block(sheet, 0);
     match forms::head_of(b) {
         HeadForm::Ill => Ends { out: 0, report: 0 },
         HeadForm::Head { places } => {
             let start = put_head(b, places, out);
-            let ends = put_elements(policy, d, sheet, lead, &mut out[start..], report);
+            let ends = put_elements(converter, sheet, lead, &mut out[start..], report);
             let end = records::put_empty_at(out, start + ends.out, records::ENDSTR);
             Ends {
                 out: end,

@@ -1,6 +1,6 @@
 // Writing a cell (`write_cell_with_options` of write/mod.rs): everything is decided in a measuring walk before the first byte is written.
 use cell::Answer;
-use conversion::GdsRoundingPolicy;
+use conversion::CoordinateConverter;
 use refusal::Refusal;
 use validation::Called;
 ghost use Prim.Native.Nat.{_≤_};
@@ -19,22 +19,27 @@ pub fn measure_cell(policy: u8, d: f64, sheet: &[u8]) -> Answer
 {
     match validation::check_call(policy, d, sheet) {
         Called::Refused { refusal } => Answer::Refused { refusal, block: 0 },
-        Called::Passed { rounding } => walk::measure_sheet(rounding, d, sheet),
+        Called::Passed { rounding } => {
+            let converter = CoordinateConverter {
+                policy: rounding,
+                d,
+            };
+            walk::measure_sheet(converter, sheet)
+        }
     }
 }
 
 // What follows 1 to 3: the sheet measured, 21 and 22, and only then the structure and its report.
 fn write_sheet(
-    rounding: GdsRoundingPolicy,
-    d: f64,
+    converter: CoordinateConverter,
     sheet: &[u8],
     out: &mut [u8],
     report: &mut [u8],
 ) -> Answer
     requires { ⌜ length (now sheet) ≤ maxSheetLength ⌝ }
-    ensures { λ r. ⌜ WritesSheet rounding d (now (sheet .entry)) (now (out .entry)) (now (report .entry)) (now (out .exit)) (now (report .exit)) r ⌝ }
+    ensures { λ r. ⌜ WritesSheet (converter .policy) (converter .d) (now (sheet .entry)) (now (out .entry)) (now (report .entry)) (now (out .exit)) (now (report .exit)) r ⌝ }
 {
-    match walk::measure_sheet(rounding, d, sheet) {
+    match walk::measure_sheet(converter, sheet) {
         Answer::Refused { refusal, block } => Answer::Refused { refusal, block },
         Answer::Accepted {
             length,
@@ -54,7 +59,7 @@ fn write_sheet(
                     block: 0,
                 };
             }
-            walk::put_structure(rounding, d, sheet, b"", out, report);
+            walk::put_structure(converter, sheet, b"", out, report);
             Answer::Accepted {
                 length,
                 entries,
@@ -70,6 +75,12 @@ pub fn write_cell(policy: u8, d: f64, sheet: &[u8], out: &mut [u8], report: &mut
 {
     match validation::check_call(policy, d, sheet) {
         Called::Refused { refusal } => Answer::Refused { refusal, block: 0 },
-        Called::Passed { rounding } => write_sheet(rounding, d, sheet, out, report),
+        Called::Passed { rounding } => {
+            let converter = CoordinateConverter {
+                policy: rounding,
+                d,
+            };
+            write_sheet(converter, sheet, out, report)
+        }
     }
 }

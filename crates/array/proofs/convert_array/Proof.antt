@@ -44,7 +44,7 @@ returns c =
     let s = a .s in
     let b = a .b .now in
     let g = c .before .refusal .given in
-    origin-stops (a .policy) (a .d) (s .sine) (s .cosine) (s .columns) (s .rows) (pointAt b (s .origin)) (spacingAt b (s .column)) (spacingAt b (s .row)) (a .entry) (v .result) (v .ensures) (g .0 .0) (g .1)
+    origin-stops (a .converter .policy) (a .converter .d) (s .sine) (s .cosine) (s .columns) (s .rows) (pointAt b (s .origin)) (spacingAt b (s .column)) (spacingAt b (s .row)) (a .entry) (v .result) (v .ensures) (g .0 .0) (g .1)
 
 returns-2 : tie.Need-returns-2
 returns-2 c =
@@ -59,7 +59,7 @@ returns-2 c =
     let g = at-point .point .given in
     let r = at-convert-physical-point .convert-physical-point in
     let k = c .before .refusal2 .given in
-    origin-refused (a .policy) (a .d) (s .sine) (s .cosine) (s .columns) (s .rows) (pointAt b (s .origin)) (spacingAt b (s .column)) (spacingAt b (s .row)) (a .entry) (v .result) (v .ensures) (g .0 .0) (g .1) (r .result) (r .ensures) (k .0 .0) (k .1)
+    origin-refused (a .converter .policy) (a .converter .d) (s .sine) (s .cosine) (s .columns) (s .rows) (pointAt b (s .origin)) (spacingAt b (s .column)) (spacingAt b (s .row)) (a .entry) (v .result) (v .ensures) (g .0 .0) (g .1) (r .result) (r .ensures) (k .0 .0) (k .1)
 
 returns-3 : tie.Need-returns-3
 returns-3 c =
@@ -74,7 +74,7 @@ returns-3 c =
     let g = at-point .point .given in
     let r = at-convert-physical-point .convert-physical-point in
     let k = c .before .before .origin .given in
-    c .convert-spacings .ensures ∙ array-made (a .policy) (a .d) (s .sine) (s .cosine) (s .columns) (s .rows) (pointAt b (s .origin)) (spacingAt b (s .column)) (spacingAt b (s .row)) (a .entry) (v .result) (v .ensures) (g .0 .0) (g .1) (r .result) (r .ensures) (k .0 .0) (k .0 .1 .0) (k .1)
+    c .convert-spacings .ensures ∙ array-made (a .converter .policy) (a .converter .d) (s .sine) (s .cosine) (s .columns) (s .rows) (pointAt b (s .origin)) (spacingAt b (s .column)) (spacingAt b (s .row)) (a .entry) (v .result) (v .ensures) (g .0 .0) (g .1) (r .result) (r .ensures) (k .0 .0) (k .0 .1 .0) (k .1)
 
 pub convert-array-spec : {M : Type 1} → statement M
 convert-array-spec =

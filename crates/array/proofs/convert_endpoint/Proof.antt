@@ -55,25 +55,25 @@ enum-known-y c = search needs
 
 -- the value of x is the definition's
 x-ends : (k : tie.After-record-quantization)
-    → Values (k .before .before .before .before .before .args .entry) (arrayEndpoint (k .before .before .before .before .before .args .d) (spot (k .before .before .before .before .before .args .field) xAxis 0) (databasePart (k .before .before .before .before .before .args .origin) .x) (databasePart (k .before .before .before .before .before .args .step) .x) (k .before .before .before .before .before .args .n) (endpointPhysical (physicalPart (k .before .before .before .before .before .args .step) .x) (k .before .before .before .before .before .args .n) (physicalPart (k .before .before .before .before .before .args .origin) .x))) (k .record-quantization .result)
+    → Values (k .before .before .before .before .before .args .entry) (arrayEndpoint (k .before .before .before .before .before .args .converter .d) (spot (k .before .before .before .before .before .args .field) xAxis 0) (databasePart (k .before .before .before .before .before .args .origin) .x) (databasePart (k .before .before .before .before .before .args .step) .x) (k .before .before .before .before .before .args .n) (endpointPhysical (physicalPart (k .before .before .before .before .before .args .step) .x) (k .before .before .before .before .before .args .n) (physicalPart (k .before .before .before .before .before .args .origin) .x))) (k .record-quantization .result)
 x-ends k =
     let a = k .before .before .before .before .before .args in
     let go = k .before .before .before .before .before .good .1 .0 in
     let gs = k .before .before .before .before .before .good .1 .1 .0 in
     let fo : SFits w32 (a .origin .x) = search needs in
     let fs : SFits w32 (a .step .x) = search needs in
-    same-values (k .before .checked-array-endpoint .ensures (spot (a .field) xAxis 0) ∙ same-endpoint (a .d) (spot (a .field) xAxis 0) (a .n) _ (a .origin .x) _ (a .step .x) _ _ (toZ-ofZ w32 (a .origin .x) fo) (toZ-ofZ w32 (a .step .x) fs) (k .before .before .before .before .endpoint-physical .ensures)) (k .record-quantization .ensures)
+    same-values (k .before .checked-array-endpoint .ensures (spot (a .field) xAxis 0) ∙ same-endpoint (a .converter .d) (spot (a .field) xAxis 0) (a .n) _ (a .origin .x) _ (a .step .x) _ _ (toZ-ofZ w32 (a .origin .x) fo) (toZ-ofZ w32 (a .step .x) fs) (k .before .before .before .before .endpoint-physical .ensures)) (k .record-quantization .ensures)
 
 -- the value of y is the definition's
 y-ends : (k : tie.After-record-quantization2)
-    → Values (k .before .before .before .before .before .before .x .given .0 .1 .0) (arrayEndpoint (k .before .before .before .before .before .before .before .before .before .before .before .before .before .args .d) (spot (k .before .before .before .before .before .before .before .before .before .before .before .before .before .args .field) yAxis 0) (databasePart (k .before .before .before .before .before .before .before .before .before .before .before .before .before .args .origin) .y) (databasePart (k .before .before .before .before .before .before .before .before .before .before .before .before .before .args .step) .y) (k .before .before .before .before .before .before .before .before .before .before .before .before .before .args .n) (endpointPhysical (physicalPart (k .before .before .before .before .before .before .before .before .before .before .before .before .before .args .step) .y) (k .before .before .before .before .before .before .before .before .before .before .before .before .before .args .n) (physicalPart (k .before .before .before .before .before .before .before .before .before .before .before .before .before .args .origin) .y))) (k .record-quantization2 .result)
+    → Values (k .before .before .before .before .before .before .x .given .0 .1 .0) (arrayEndpoint (k .before .before .before .before .before .before .before .before .before .before .before .before .before .args .converter .d) (spot (k .before .before .before .before .before .before .before .before .before .before .before .before .before .args .field) yAxis 0) (databasePart (k .before .before .before .before .before .before .before .before .before .before .before .before .before .args .origin) .y) (databasePart (k .before .before .before .before .before .before .before .before .before .before .before .before .before .args .step) .y) (k .before .before .before .before .before .before .before .before .before .before .before .before .before .args .n) (endpointPhysical (physicalPart (k .before .before .before .before .before .before .before .before .before .before .before .before .before .args .step) .y) (k .before .before .before .before .before .before .before .before .before .before .before .before .before .args .n) (physicalPart (k .before .before .before .before .before .before .before .before .before .before .before .before .before .args .origin) .y))) (k .record-quantization2 .result)
 y-ends k =
     let a = k .before .before .before .before .before .before .before .before .before .before .before .before .before .args in
     let go = k .before .before .before .before .before .before .before .before .before .before .before .before .before .good .1 .0 in
     let gs = k .before .before .before .before .before .before .before .before .before .before .before .before .before .good .1 .1 .0 in
     let fo : SFits w32 (a .origin .y) = search needs in
     let fs : SFits w32 (a .step .y) = search needs in
-    same-values (k .before .checked-array-endpoint2 .ensures (spot (a .field) yAxis 0) ∙ same-endpoint (a .d) (spot (a .field) yAxis 0) (a .n) _ (a .origin .y) _ (a .step .y) _ _ (toZ-ofZ w32 (a .origin .y) fo) (toZ-ofZ w32 (a .step .y) fs) (k .before .before .before .before .endpoint-physical2 .ensures)) (k .record-quantization2 .ensures)
+    same-values (k .before .checked-array-endpoint2 .ensures (spot (a .field) yAxis 0) ∙ same-endpoint (a .converter .d) (spot (a .field) yAxis 0) (a .n) _ (a .origin .y) _ (a .step .y) _ _ (toZ-ofZ w32 (a .origin .y) fo) (toZ-ofZ w32 (a .step .y) fs) (k .before .before .before .before .endpoint-physical2 .ensures)) (k .record-quantization2 .ensures)
 
 returns : tie.Need-returns
 returns c =
@@ -82,7 +82,7 @@ returns c =
     let a = start .args in
     let k = earlier in
     let g = c .before .refusal .given in
-    λ policy. end-stops policy (a .d) (a .field) (databasePart (a .origin)) (databasePart (a .step)) (a .n) (physicalPart (a .origin)) (physicalPart (a .step)) (a .entry) (k .record-quantization .result) (x-ends k) (g .0 .0) (g .1)
+    end-stops (a .converter .policy) (a .converter .d) (a .field) (databasePart (a .origin)) (databasePart (a .step)) (a .n) (physicalPart (a .origin)) (physicalPart (a .step)) (a .entry) (k .record-quantization .result) (x-ends k) (g .0 .0) (g .1)
 
 returns-2 : tie.Need-returns-2
 returns-2 c =
@@ -95,7 +95,7 @@ returns-2 c =
     let l = earlier in
     let g = at-x .x .given in
     let h = c .before .refusal2 .given in
-    λ policy. end-stops-at-y policy (a .d) (a .field) (databasePart (a .origin)) (databasePart (a .step)) (a .n) (physicalPart (a .origin)) (physicalPart (a .step)) (a .entry) (k .record-quantization .result) (x-ends k) (g .0 .0) (g .0 .1 .0) (g .1) (l .record-quantization2 .result) (y-ends l) (h .0 .0) (h .1)
+    end-stops-at-y (a .converter .policy) (a .converter .d) (a .field) (databasePart (a .origin)) (databasePart (a .step)) (a .n) (physicalPart (a .origin)) (physicalPart (a .step)) (a .entry) (k .record-quantization .result) (x-ends k) (g .0 .0) (g .0 .1 .0) (g .1) (l .record-quantization2 .result) (y-ends l) (h .0 .0) (h .1)
 
 returns-3 : tie.Need-returns-3
 returns-3 c =
@@ -113,7 +113,7 @@ returns-3 c =
     let gy = c .known-told4 .given in
     let f : SFits w32 (g .0 .0) = search needs in
     let f2 : SFits w32 (h .0 .0) = search needs in
-    λ policy. end-made policy (a .d) (a .field) (databasePart (a .origin)) (databasePart (a .step)) (a .n) (physicalPart (a .origin)) (physicalPart (a .step)) (a .entry) (k .record-quantization .result) (x-ends k) (g .0 .0) (g .0 .1 .0) (g .1) (l .record-quantization2 .result) (y-ends l) (h .0 .0) (h .0 .1 .0) (h .1) _ _ (toZ-ofZ w32 (g .0 .0) f) (toZ-ofZ w32 (h .0 .0) f2)
+    end-made (a .converter .policy) (a .converter .d) (a .field) (databasePart (a .origin)) (databasePart (a .step)) (a .n) (physicalPart (a .origin)) (physicalPart (a .step)) (a .entry) (k .record-quantization .result) (x-ends k) (g .0 .0) (g .0 .1 .0) (g .1) (l .record-quantization2 .result) (y-ends l) (h .0 .0) (h .0 .1 .0) (h .1) _ _ (toZ-ofZ w32 (g .0 .0) f) (toZ-ofZ w32 (h .0 .0) f2)
 
 pub convert-endpoint-spec : {M : Type 1} → statement M
 convert-endpoint-spec =

@@ -3,7 +3,6 @@ use Prim.Native.Nat.{_≤_}
 use native.Mathlib.Omega.{arith}
 use mir.Syntax.{w32}
 use mir.Val.{SFits}
-use Rattle.conversion.specs.declared.GdsRoundingPolicy.the-variants.{ErrorIfOffGrid}
 use Rattle.array.specs.code.Corners.{physicalPart, databasePart}
 use Rattle.array.proofs.CornerLaws.{end-more, columns-stop, rows-stop, corners-made, read-back}
 use borrow.Author.Needs.{needs}
@@ -24,7 +23,7 @@ convert-endpoint-requires-2 c κs =
     let a = c .before .before .before .before .args in
     let g = c .before .x1 .given in
     let r = c .before .before .before .convert-endpoint in
-    let k = end-more (a .entry) _ _ (r .result) (r .ensures ErrorIfOffGrid) (g .0 .0) (g .0 .1 .0) (g .0 .1 .1 .0) (g .1) in
+    let k = end-more (a .entry) _ _ (r .result) (r .ensures) (g .0 .0) (g .0 .1 .0) (g .0 .1 .1 .0) (g .1) in
     let p : a .entry .count ≤ 22 = c .before .before .before .before .pre in
     omega arith
 
@@ -42,7 +41,7 @@ returns c =
     let u = a .column in
     let v = a .row in
     let g = c .before .refusal .given in
-    λ policy. columns-stop policy (a .d) (a .columns) (a .rows) (physicalPart o) (databasePart o) (physicalPart u) (physicalPart v) (databasePart u) (databasePart v) (a .entry) (r .result) (r .ensures policy) (g .0 .0) (g .1)
+    columns-stop (a .converter .policy) (a .converter .d) (a .columns) (a .rows) (physicalPart o) (databasePart o) (physicalPart u) (physicalPart v) (databasePart u) (databasePart v) (a .entry) (r .result) (r .ensures) (g .0 .0) (g .1)
 
 returns-2 : tie.Need-returns-2
 returns-2 c =
@@ -54,7 +53,7 @@ returns-2 c =
     let g = c .before .before .before .before .before .x1 .given in
     let t = c .before .before .before .convert-endpoint2 in
     let k = c .before .refusal2 .given in
-    λ policy. rows-stop policy (a .d) (a .columns) (a .rows) (physicalPart o) (databasePart o) (physicalPart u) (physicalPart v) (databasePart u) (databasePart v) (a .entry) (r .result) (r .ensures policy) (g .0 .0) (g .0 .1 .0) (g .0 .1 .1 .0) (g .1) (t .result) (t .ensures policy) (k .0 .0) (k .1)
+    rows-stop (a .converter .policy) (a .converter .d) (a .columns) (a .rows) (physicalPart o) (databasePart o) (physicalPart u) (physicalPart v) (databasePart u) (databasePart v) (a .entry) (r .result) (r .ensures) (g .0 .0) (g .0 .1 .0) (g .0 .1 .1 .0) (g .1) (t .result) (t .ensures) (k .0 .0) (k .1)
 
 returns-3 : tie.Need-returns-3
 returns-3 c =
@@ -81,7 +80,7 @@ returns-3 c =
     let g2 = c .before .before .before .known-told4 .given in
     let f8 : SFits w32 (k .0 .0) = search needs in
     let f9 : SFits w32 (k .0 .1 .0) = search needs in
-    λ policy. corners-made policy (a .d) (a .columns) (a .rows) (physicalPart o) (databasePart o) (physicalPart u) (physicalPart v) (databasePart u) (databasePart v) (a .entry) (r .result) (r .ensures policy) (g .0 .0) (g .0 .1 .0) (g .0 .1 .1 .0) (g .1) (t .result) (t .ensures policy) (k .0 .0) (k .0 .1 .0) (k .0 .1 .1 .0) (k .1) _
+    corners-made (a .converter .policy) (a .converter .d) (a .columns) (a .rows) (physicalPart o) (databasePart o) (physicalPart u) (physicalPart v) (databasePart u) (databasePart v) (a .entry) (r .result) (r .ensures) (g .0 .0) (g .0 .1 .0) (g .0 .1 .1 .0) (g .1) (t .result) (t .ensures) (k .0 .0) (k .0 .1 .0) (k .0 .1 .1 .0) (k .1) _
     (read-back (o .x) (o .y) (u .x) (u .y) (v .x) (v .y) (g .0 .0) (g .0 .1 .0) (k .0 .0) (k .0 .1 .0) f0 f1 f2 f3 f4 f5 f6 f7 f8 f9)
 
 pub convert-endpoints-spec : {M : Type 1} → statement M

@@ -46,10 +46,10 @@ enum-known-y : tie.Need-enum-known-y
 enum-known-y c = search needs
 
 -- the values of x and y are the definition's
-x-ends : (k : tie.After-record-quantization) → Values (k .before .before .args .entry) (convertPhysical (k .before .before .args .policy) (k .before .before .args .d) (spot (k .before .before .args .field) xAxis 0) (pointOf (k .before .before .args .p) .x)) (k .record-quantization .result)
+x-ends : (k : tie.After-record-quantization) → Values (k .before .before .args .entry) (convertPhysical (k .before .before .args .converter .policy) (k .before .before .args .converter .d) (spot (k .before .before .args .field) xAxis 0) (pointOf (k .before .before .args .p) .x)) (k .record-quantization .result)
 x-ends k = same-values (k .before .convert-physical .ensures (spot (k .before .before .args .field) xAxis 0)) (k .record-quantization .ensures)
 
-y-ends : (k : tie.After-record-quantization2) → Values (k .before .before .before .x .given .0 .1 .0) (convertPhysical (k .before .before .before .before .before .before .before .args .policy) (k .before .before .before .before .before .before .before .args .d) (spot (k .before .before .before .before .before .before .before .args .field) yAxis 0) (pointOf (k .before .before .before .before .before .before .before .args .p) .y)) (k .record-quantization2 .result)
+y-ends : (k : tie.After-record-quantization2) → Values (k .before .before .before .x .given .0 .1 .0) (convertPhysical (k .before .before .before .before .before .before .before .args .converter .policy) (k .before .before .before .before .before .before .before .args .converter .d) (spot (k .before .before .before .before .before .before .before .args .field) yAxis 0) (pointOf (k .before .before .before .before .before .before .before .args .p) .y)) (k .record-quantization2 .result)
 y-ends k = same-values (k .before .convert-physical2 .ensures (spot (k .before .before .before .before .before .before .before .args .field) yAxis 0)) (k .record-quantization2 .ensures)
 
 returns : tie.Need-returns
@@ -57,7 +57,7 @@ returns c =
     let a = c .before .before .before .before .before .args in
     let k = c .before .before .before in
     let g = c .before .refusal .given in
-    point-stops (a .policy) (a .d) (a .field) (pointOf (a .p)) (a .entry) (k .record-quantization .result) (x-ends k) (g .0 .0) (g .1)
+    point-stops (a .converter .policy) (a .converter .d) (a .field) (pointOf (a .p)) (a .entry) (k .record-quantization .result) (x-ends k) (g .0 .0) (g .1)
 
 returns-2 : tie.Need-returns-2
 returns-2 c =
@@ -66,7 +66,7 @@ returns-2 c =
     let l = c .before .before .before in
     let g = c .before .before .before .before .before .before .x .given in
     let h = c .before .refusal2 .given in
-    point-stops-at-y (a .policy) (a .d) (a .field) (pointOf (a .p)) (a .entry) (k .record-quantization .result) (x-ends k) (g .0 .0) (g .0 .1 .0) (g .1) (l .record-quantization2 .result) (y-ends l) (h .0 .0) (h .1)
+    point-stops-at-y (a .converter .policy) (a .converter .d) (a .field) (pointOf (a .p)) (a .entry) (k .record-quantization .result) (x-ends k) (g .0 .0) (g .0 .1 .0) (g .1) (l .record-quantization2 .result) (y-ends l) (h .0 .0) (h .1)
 
 returns-3 : tie.Need-returns-3
 returns-3 c =
@@ -77,7 +77,7 @@ returns-3 c =
     let h = c .before .y .given in
     let f : SFits w32 (g .0 .0) = search needs in
     let f2 : SFits w32 (h .0 .0) = search needs in
-    point-made (a .policy) (a .d) (a .field) (pointOf (a .p)) (a .entry) (k .record-quantization .result) (x-ends k) (g .0 .0) (g .0 .1 .0) (g .1) (l .record-quantization2 .result) (y-ends l) (h .0 .0) (h .0 .1 .0) (h .1) _ _ (toZ-ofZ w32 (g .0 .0) f) (toZ-ofZ w32 (h .0 .0) f2)
+    point-made (a .converter .policy) (a .converter .d) (a .field) (pointOf (a .p)) (a .entry) (k .record-quantization .result) (x-ends k) (g .0 .0) (g .0 .1 .0) (g .1) (l .record-quantization2 .result) (y-ends l) (h .0 .0) (h .0 .1 .0) (h .1) _ _ (toZ-ofZ w32 (g .0 .0) f) (toZ-ofZ w32 (h .0 .0) f2)
 
 pub convert-physical-point-spec : {M : Type 1} → statement M
 convert-physical-point-spec =

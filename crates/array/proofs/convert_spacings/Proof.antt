@@ -42,7 +42,7 @@ returns c =
     let b = a .b .now in
     let o = a .origin in
     let g = c .before .refusal .given in
-    column-spacing-stops (a .policy) (a .d) (s .columns) (s .rows) (s .sine) (s .cosine) (spacingAt b (s .column)) (spacingAt b (s .row)) (physicalPart o) (databasePart o) (a .entry) (v .result) (v .ensures) (g .0 .0) (g .1)
+    column-spacing-stops (a .converter .policy) (a .converter .d) (s .columns) (s .rows) (s .sine) (s .cosine) (spacingAt b (s .column)) (spacingAt b (s .row)) (physicalPart o) (databasePart o) (a .entry) (v .result) (v .ensures) (g .0 .0) (g .1)
 
 returns-2 : tie.Need-returns-2
 returns-2 c =
@@ -58,7 +58,7 @@ returns-2 c =
     let g = at-column .column .given in
     let w = at-physical-spacing2 .physical-spacing2 in
     let k = c .before .refusal2 .given in
-    row-spacing-stops (a .policy) (a .d) (s .columns) (s .rows) (s .sine) (s .cosine) (spacingAt b (s .column)) (spacingAt b (s .row)) (physicalPart o) (databasePart o) (a .entry) (v .result) (v .ensures) (g .0 .0) (g .1) (w .result) (w .ensures) (k .0 .0) (k .1)
+    row-spacing-stops (a .converter .policy) (a .converter .d) (s .columns) (s .rows) (s .sine) (s .cosine) (spacingAt b (s .column)) (spacingAt b (s .row)) (physicalPart o) (databasePart o) (a .entry) (v .result) (v .ensures) (g .0 .0) (g .1) (w .result) (w .ensures) (k .0 .0) (k .1)
 
 returns-3 : tie.Need-returns-3
 returns-3 c =
@@ -75,7 +75,7 @@ returns-3 c =
     let g = at-column .column .given in
     let w = at-physical-spacing2 .physical-spacing2 in
     let k = at-row .row .given in
-    c .convert-steps .ensures ∙ spacings-made (a .policy) (a .d) (s .columns) (s .rows) (s .sine) (s .cosine) (spacingAt b (s .column)) (spacingAt b (s .row)) (physicalPart o) (databasePart o) (a .entry) (v .result) (v .ensures) (g .0 .0) (g .1) (w .result) (w .ensures) (k .0 .0) (k .1) _ _ (c .before .before .turned .ensures) (c .before .turned2 .ensures)
+    c .convert-steps .ensures ∙ spacings-made (a .converter .policy) (a .converter .d) (s .columns) (s .rows) (s .sine) (s .cosine) (spacingAt b (s .column)) (spacingAt b (s .row)) (physicalPart o) (databasePart o) (a .entry) (v .result) (v .ensures) (g .0 .0) (g .1) (w .result) (w .ensures) (k .0 .0) (k .1) _ _ (c .before .before .turned .ensures) (c .before .turned2 .ensures)
 
 pub convert-spacings-spec : {M : Type 1} → statement M
 convert-spacings-spec =

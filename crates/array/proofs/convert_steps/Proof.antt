@@ -55,7 +55,7 @@ returns c =
     let r = c .before .before .before .convert-physical-point in
     let o = a .origin in
     let g = c .before .refusal .given in
-    column-stops (a .policy) (a .d) (a .columns) (a .rows) (physicalPart o) (databasePart o) (pointOf (a .column)) (pointOf (a .row)) (a .entry) (r .result) (r .ensures) (g .0 .0) (g .1)
+    column-stops (a .converter .policy) (a .converter .d) (a .columns) (a .rows) (physicalPart o) (databasePart o) (pointOf (a .column)) (pointOf (a .row)) (a .entry) (r .result) (r .ensures) (g .0 .0) (g .1)
 
 returns-2 : tie.Need-returns-2
 returns-2 c =
@@ -69,7 +69,7 @@ returns-2 c =
     let g = at-a .a .given in
     let s = at-convert-physical-point2 .convert-physical-point2 in
     let k = c .before .refusal2 .given in
-    row-stops (a .policy) (a .d) (a .columns) (a .rows) (physicalPart o) (databasePart o) (pointOf (a .column)) (pointOf (a .row)) (a .entry) (r .result) (r .ensures) (g .0 .0) (g .0 .1 .0) (g .1) (s .result) (s .ensures) (k .0 .0) (k .1)
+    row-stops (a .converter .policy) (a .converter .d) (a .columns) (a .rows) (physicalPart o) (databasePart o) (pointOf (a .column)) (pointOf (a .row)) (a .entry) (r .result) (r .ensures) (g .0 .0) (g .0 .1 .0) (g .1) (s .result) (s .ensures) (k .0 .0) (k .1)
 
 returns-3 : tie.Need-returns-3
 returns-3 c =
@@ -83,7 +83,7 @@ returns-3 c =
     let g = at-a .a .given in
     let s = at-convert-physical-point2 .convert-physical-point2 in
     let k = c .before .before .b .given in
-    c .convert-endpoints .ensures (a .policy) ∙ steps-made (a .policy) (a .d) (a .columns) (a .rows) (physicalPart o) (databasePart o) (pointOf (a .column)) (pointOf (a .row)) (a .entry) (r .result) (r .ensures) (g .0 .0) (g .0 .1 .0) (g .1) (s .result) (s .ensures) (k .0 .0) (k .0 .1 .0) (k .1)
+    c .convert-endpoints .ensures ∙ steps-made (a .converter .policy) (a .converter .d) (a .columns) (a .rows) (physicalPart o) (databasePart o) (pointOf (a .column)) (pointOf (a .row)) (a .entry) (r .result) (r .ensures) (g .0 .0) (g .0 .1 .0) (g .1) (s .result) (s .ensures) (k .0 .0) (k .0 .1 .0) (k .1)
 
 pub convert-steps-spec : {M : Type 1} → statement M
 convert-steps-spec =

@@ -18,7 +18,7 @@ use Rattle.bounds.proofs.range_of.Tie as tie
 finite-ends : (k : tie.Else1) → finite (k .before .before .before .args .lower) && finite (k .before .before .before .args .upper) ≡ true
 finite-ends k = let f = k .before .before .both-finite in sym (f .ensures) ∙ not-false (f .result) (k .if1 .left)
 
-ordered-ends : (k : tie.Else2) → admitted (k .before .before .before .before .args .policy) (k .before .before .before .before .args .lower) (k .before .before .before .before .args .upper) ≡ true
+ordered-ends : (k : tie.Else2) → admitted (k .before .before .before .before .args .converter .policy) (k .before .before .before .before .args .lower) (k .before .before .before .before .args .upper) ≡ true
 ordered-ends k = let t = k .before .before .admitted in sym (t .ensures) ∙ not-false (t .result) (k .if2 .left)
 
 both-finite-requires : tie.Need-both-finite-requires
@@ -31,14 +31,14 @@ returns : tie.Need-returns
 returns c =
     let f = c .before .before .both-finite in
     let a = c .before .before .before .args in
-    not-finite (a .policy) (a .d) (a .lower) (a .upper) (sym (f .ensures) ∙ not-true (f .result) (c .if1 .taken))
+    not-finite (a .converter .policy) (a .converter .d) (a .lower) (a .upper) (sym (f .ensures) ∙ not-true (f .result) (c .if1 .taken))
 
 returns-2 : tie.Need-returns-2
 returns-2 c =
     let k = c .before in
     let t = k .before .admitted in
     let a = k .before .before .before .args in
-    not-admitted (a .policy) (a .d) (a .lower) (a .upper) (finite-ends k) (sym (t .ensures) ∙ not-true (t .result) (c .if2 .taken))
+    not-admitted (a .converter .policy) (a .converter .d) (a .lower) (a .upper) (finite-ends k) (sym (t .ensures) ∙ not-true (t .result) (c .if2 .taken))
 
 database-value-requires : tie.Need-database-value-requires
 database-value-requires c κs = search needs
@@ -64,7 +64,7 @@ returns-3 c =
     let k = m .before .before .before in
     let v = m .before .before .database-value in
     let a = k .before .before .before .before .args in
-    lower-refused (a .policy) (a .d) (a .lower) (a .upper) (finite-ends (k .before)) (ordered-ends k) (v .result) (v .ensures) _ (m .refusal .given .1)
+    lower-refused (a .converter .policy) (a .converter .d) (a .lower) (a .upper) (finite-ends (k .before)) (ordered-ends k) (v .result) (v .ensures) _ (m .refusal .given .1)
 
 returns-4 : tie.Need-returns-4
 returns-4 c =
@@ -73,7 +73,7 @@ returns-4 c =
     let k = m .before .before .before in
     let v = m .before .before .database-value in
     let a = k .before .before .before .before .args in
-    upper-refused (a .policy) (a .d) (a .lower) (a .upper) (finite-ends (k .before)) (ordered-ends k) (v .result) (v .ensures) _ (m .least .given .1) (w .result) (w .ensures) _ (c .before .above .given .1)
+    upper-refused (a .converter .policy) (a .converter .d) (a .lower) (a .upper) (finite-ends (k .before)) (ordered-ends k) (v .result) (v .ensures) _ (m .least .given .1) (w .result) (w .ensures) _ (c .before .above .given .1)
 
 returns-5 : tie.Need-returns-5
 returns-5 c =
@@ -87,7 +87,7 @@ returns-5 c =
     let f : SFits w32 least = search needs in
     let g : SFits w32 greatest = search needs in
     ap₂ (λ (x y : ℤ). A.Range x y) (toZ-ofZ w32 least f) (toZ-ofZ w32 greatest g)
-    ∙ range-is (a .policy) (a .d) (a .lower) (a .upper) (finite-ends (k .before)) (ordered-ends k) (v .result) (v .ensures) least (m .least .given .1) (w .result) (w .ensures) greatest (c .before .greatest .given .1)
+    ∙ range-is (a .converter .policy) (a .converter .d) (a .lower) (a .upper) (finite-ends (k .before)) (ordered-ends k) (v .result) (v .ensures) least (m .least .given .1) (w .result) (w .ensures) greatest (c .before .greatest .given .1)
 
 pub range-of-spec : {M : Type 1} → statement M
 range-of-spec =

@@ -14,7 +14,7 @@ convert-unit-requires c κs = search needs
 returns : tie.Need-returns
 returns c =
     let a = c .before .before .before .args in
-    λ s. c .convert-unit .ensures s ∙ ap (convertUnit (a .policy) (a .d) s) (c .before .unit-at .ensures)
+    λ s. c .convert-unit .ensures s ∙ ap (convertUnit (a .converter .policy) (a .converter .d) s) (c .before .unit-at .ensures)
 
 pub convert-at-spec : {M : Type 1} → statement M
 convert-at-spec = tie.close (tie.spec unit-at-requires convert-unit-requires returns)

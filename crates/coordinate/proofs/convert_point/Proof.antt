@@ -24,7 +24,7 @@ returns c =
     let x = c .before .before .convert-at in
     let y = c .before .convert-at2 in
     let r = c .record-point in
-    point-recorded (a .policy) (a .d) (pointAt (a .b .now) (a .at)) (x .result) (y .result) (x .ensures) (y .ensures) (a .field) (a .place) (a .entry) (r .result) (r .ensures)
+    point-recorded (a .converter .policy) (a .converter .d) (pointAt (a .b .now) (a .at)) (x .result) (y .result) (x .ensures) (y .ensures) (a .field) (a .place) (a .entry) (r .result) (r .ensures)
 
 pub convert-point-spec : {M : Type 1} → statement M
 convert-point-spec =

@@ -54,31 +54,31 @@ returns : tie.Need-returns
 returns c =
     let a = c .before .before .before .before .before .args in
     let g = c .before .before .body .given in
-    polygon-as (a .policy) (a .d) (a .b .now) (g .0 .0) (g .1) .measures (a .entry) (c .measure-polygon .result) (c .measure-polygon .ensures)
+    polygon-as (a .converter .policy) (a .converter .d) (a .b .now) (g .0 .0) (g .1) .measures (a .entry) (c .measure-polygon .result) (c .measure-polygon .ensures)
 
 returns-2 : tie.Need-returns-2
 returns-2 c =
     let a = c .before .before .before .before .before .args in
     let g = c .before .before .body2 .given in
-    path-as (a .policy) (a .d) (a .b .now) (g .0 .0) (g .1) .measures (a .entry) (c .measure-path .result) (c .measure-path .ensures)
+    path-as (a .converter .policy) (a .converter .d) (a .b .now) (g .0 .0) (g .1) .measures (a .entry) (c .measure-path .result) (c .measure-path .ensures)
 
 returns-3 : tie.Need-returns-3
 returns-3 c =
     let a = c .before .before .before .before .before .args in
     let g = c .before .before .body3 .given in
-    text-as (a .policy) (a .d) (a .b .now) (g .0 .0) (g .1) .measures (a .entry) (c .measure-text .result) (c .measure-text .ensures)
+    text-as (a .converter .policy) (a .converter .d) (a .b .now) (g .0 .0) (g .1) .measures (a .entry) (c .measure-text .result) (c .measure-text .ensures)
 
 returns-4 : tie.Need-returns-4
 returns-4 c =
     let a = c .before .before .before .before .before .args in
     let g = c .before .before .body4 .given in
-    node-as (a .policy) (a .d) (a .b .now) (g .0 .0) (g .1) .measures (a .entry) (c .measure-node .result) (c .measure-node .ensures)
+    node-as (a .converter .policy) (a .converter .d) (a .b .now) (g .0 .0) (g .1) .measures (a .entry) (c .measure-node .result) (c .measure-node .ensures)
 
 returns-5 : tie.Need-returns-5
 returns-5 c =
     let a = c .before .before .before .before .before .args in
     let g = c .before .before .body5 .given in
-    reference-as (a .policy) (a .d) (a .b .now) (g .0 .0) (g .1) .measures (a .entry) (c .measure-reference .result) (c .measure-reference .ensures)
+    reference-as (a .converter .policy) (a .converter .d) (a .b .now) (g .0 .0) (g .1) .measures (a .entry) (c .measure-reference .result) (c .measure-reference .ensures)
 
 pub measure-body-spec : {M : Type 1} → statement M
 measure-body-spec =

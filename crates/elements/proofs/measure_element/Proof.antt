@@ -35,7 +35,7 @@ returns : tie.Need-returns
 returns c =
     let c2 = c .before .before in
     let a = c2 .before .before .args in
-    (block-ill (a .policy) (a .d) (a .index) (a .b .now) (c2 .element .ensures) (c .enum-told .given .1), tt)
+    (block-ill (a .converter .policy) (a .converter .d) (a .index) (a .b .now) (c2 .element .ensures) (c .enum-told .given .1), tt)
 
 returns-2 : tie.Need-returns-2
 returns-2 c =
@@ -43,7 +43,7 @@ returns-2 c =
     let c4 = c2 .before .before in
     let c6 = c4 .before .before in
     let a = c6 .before .before .args in (
-      block-measured (a .policy) (a .d) (a .index) (a .b .now) (c6 .element .ensures) (c4 .body .given .1) (c2 .kind-of .result) (c .before .blank .result) (c2 .kind-of .ensures) (c .before .blank .ensures)
+      block-measured (a .converter .policy) (a .converter .d) (a .index) (a .b .now) (c6 .element .ensures) (c4 .body .given .1) (c2 .kind-of .result) (c .before .blank .result) (c2 .kind-of .ensures) (c .before .blank .ensures)
           (c .measure-parts .result) (c .measure-parts .ensures .0),
       c .measure-parts .ensures .1,
     )

@@ -33,7 +33,7 @@ add-size c =
     let g = c3 .before .before .length .given in
     let h = c .before .more .given in
     let k =
-    both-small (a .policy) (a .d) (a .b .now) (a .body) (a .properties) (a .entry) (c7 .measure-body .result) (c7 .measure-body .ensures) (g .0 .0) (g .0 .1 .0) (g .1)
+    both-small (a .converter .policy) (a .converter .d) (a .b .now) (a .body) (a .properties) (a .entry) (c7 .measure-body .result) (c7 .measure-body .ensures) (g .0 .0) (g .0 .1 .0) (g .1)
     (c3 .measure-tail .result) (c3 .measure-tail .ensures) (s .pre .1 .0) (h .0 .0) (h .0 .1 .0) (h .1) in
     let l = s .pre .0 in
     omega arith
@@ -43,7 +43,7 @@ returns c =
     let c3 = c .before .before .before in
     let a = c3 .before .before .args in
     let g = c .before .refusal .given in
-    (body-refused (a .policy) (a .d) (a .b .now) (a .body) (a .properties) (a .entry) (c3 .measure-body .result) (c3 .measure-body .ensures) (g .0 .0) (g .1), tt)
+    (body-refused (a .converter .policy) (a .converter .d) (a .b .now) (a .body) (a .properties) (a .entry) (c3 .measure-body .result) (c3 .measure-body .ensures) (g .0 .0) (g .1), tt)
 
 returns-2 : tie.Need-returns-2
 returns-2 c =
@@ -52,7 +52,7 @@ returns-2 c =
     let a = c7 .before .before .args in
     let g = c3 .before .before .length .given in
     let h = c .before .refusal2 .given in (
-      tail-refused (a .policy) (a .d) (a .b .now) (a .body) (a .properties) (a .entry) (c7 .measure-body .result) (c7 .measure-body .ensures) (g .0 .0) (g .0 .1 .0) (g .1)
+      tail-refused (a .converter .policy) (a .converter .d) (a .b .now) (a .body) (a .properties) (a .entry) (c7 .measure-body .result) (c7 .measure-body .ensures) (g .0 .0) (g .0 .1 .0) (g .1)
           (c3 .measure-tail .result) (c3 .measure-tail .ensures) (h .0 .0) (h .1),
       tt,
     )
@@ -65,9 +65,9 @@ returns-3 c =
     let a = s .args in
     let g = c3 .before .before .length .given in
     let h = c .before .more .given in (
-      both-measured (a .policy) (a .d) (a .b .now) (a .body) (a .properties) (a .entry) (c7 .measure-body .result) (c7 .measure-body .ensures) (g .0 .0) (g .0 .1 .0) (g .1)
+      both-measured (a .converter .policy) (a .converter .d) (a .b .now) (a .body) (a .properties) (a .entry) (c7 .measure-body .result) (c7 .measure-body .ensures) (g .0 .0) (g .0 .1 .0) (g .1)
           (c3 .measure-tail .result) (c3 .measure-tail .ensures) (h .0 .0) (h .0 .1 .0) (h .1),
-      both-small (a .policy) (a .d) (a .b .now) (a .body) (a .properties) (a .entry) (c7 .measure-body .result) (c7 .measure-body .ensures) (g .0 .0) (g .0 .1 .0) (g .1)
+      both-small (a .converter .policy) (a .converter .d) (a .b .now) (a .body) (a .properties) (a .entry) (c7 .measure-body .result) (c7 .measure-body .ensures) (g .0 .0) (g .0 .1 .0) (g .1)
           (c3 .measure-tail .result) (c3 .measure-tail .ensures) (s .pre .1 .0) (h .0 .0) (h .0 .1 .0) (h .1),
     )
 

@@ -27,7 +27,7 @@ put-polygon-requires c κs =
     let a = s .args in
     let g = c .before .before .body .given in
     let r = room s (g .1) in
-    (r .inside, (polygon-as (a .policy) (a .d) (a .b .now) (g .0 .0) (g .1) .accepts (s .pre .1 .0), (r .fits, few s)))
+    (r .inside, (polygon-as (a .converter .policy) (a .converter .d) (a .b .now) (g .0 .0) (g .1) .accepts (s .pre .1 .0), (r .fits, few s)))
 
 enum-known-body-2 : tie.Need-enum-known-body-2
 enum-known-body-2 c = search needs
@@ -39,7 +39,7 @@ put-path-requires c κs =
     let a = s .args in
     let g = c .before .before .body2 .given in
     let r = room s (g .1) in
-    (r .inside, (path-as (a .policy) (a .d) (a .b .now) (g .0 .0) (g .1) .accepts (s .pre .1 .0), (s .pre .1 .1 .0, r .fits)))
+    (r .inside, (path-as (a .converter .policy) (a .converter .d) (a .b .now) (g .0 .0) (g .1) .accepts (s .pre .1 .0), (s .pre .1 .1 .0, r .fits)))
 
 enum-known-body-3 : tie.Need-enum-known-body-3
 enum-known-body-3 c = search needs
@@ -51,7 +51,7 @@ put-text-requires c κs =
     let a = s .args in
     let g = c .before .before .body3 .given in
     let r = room s (g .1) in
-    (r .inside, (text-as (a .policy) (a .d) (a .b .now) (g .0 .0) (g .1) .accepts (s .pre .1 .0), (omega (arith, few s), r .fits)))
+    (r .inside, (text-as (a .converter .policy) (a .converter .d) (a .b .now) (g .0 .0) (g .1) .accepts (s .pre .1 .0), (omega (arith, few s), r .fits)))
 
 enum-known-body-4 : tie.Need-enum-known-body-4
 enum-known-body-4 c = search needs
@@ -63,7 +63,7 @@ put-node-requires c κs =
     let a = s .args in
     let g = c .before .before .body4 .given in
     let r = room s (g .1) in
-    (r .inside, (node-as (a .policy) (a .d) (a .b .now) (g .0 .0) (g .1) .accepts (s .pre .1 .0), (r .fits, few s)))
+    (r .inside, (node-as (a .converter .policy) (a .converter .d) (a .b .now) (g .0 .0) (g .1) .accepts (s .pre .1 .0), (r .fits, few s)))
 
 enum-known-body-5 : tie.Need-enum-known-body-5
 enum-known-body-5 c = search needs
@@ -75,7 +75,7 @@ put-reference-requires c κs =
     let a = s .args in
     let g = c .before .before .body5 .given in
     let r = room s (g .1) in
-    (r .inside, (reference-as (a .policy) (a .d) (a .b .now) (g .0 .0) (g .1) .accepts (s .pre .1 .0), (few s, r .fits)))
+    (r .inside, (reference-as (a .converter .policy) (a .converter .d) (a .b .now) (g .0 .0) (g .1) .accepts (s .pre .1 .0), (few s, r .fits)))
 
 same-length : tie.Need-same-length
 same-length c = search needs
@@ -86,7 +86,7 @@ returns c =
     let start = at-body .before .before .before .before in
     let a = start .args in
     let g = at-body .body .given in
-    polygon-as (a .policy) (a .d) (a .b .now) (g .0 .0) (g .1) .writes (c .before .before .put-polygon .ensures)
+    polygon-as (a .converter .policy) (a .converter .d) (a .b .now) (g .0 .0) (g .1) .writes (c .before .before .put-polygon .ensures)
 
 same-length-2 : tie.Need-same-length-2
 same-length-2 c = search needs
@@ -97,7 +97,7 @@ returns-2 c =
     let start = at-body2 .before .before .before .before in
     let a = start .args in
     let g = at-body2 .body2 .given in
-    path-as (a .policy) (a .d) (a .b .now) (g .0 .0) (g .1) .writes (c .before .before .put-path .ensures)
+    path-as (a .converter .policy) (a .converter .d) (a .b .now) (g .0 .0) (g .1) .writes (c .before .before .put-path .ensures)
 
 same-length-3 : tie.Need-same-length-3
 same-length-3 c = search needs
@@ -108,7 +108,7 @@ returns-3 c =
     let start = at-body3 .before .before .before .before in
     let a = start .args in
     let g = at-body3 .body3 .given in
-    text-as (a .policy) (a .d) (a .b .now) (g .0 .0) (g .1) .writes (c .before .before .put-text .ensures)
+    text-as (a .converter .policy) (a .converter .d) (a .b .now) (g .0 .0) (g .1) .writes (c .before .before .put-text .ensures)
 
 same-length-4 : tie.Need-same-length-4
 same-length-4 c = search needs
@@ -119,7 +119,7 @@ returns-4 c =
     let start = at-body4 .before .before .before .before in
     let a = start .args in
     let g = at-body4 .body4 .given in
-    node-as (a .policy) (a .d) (a .b .now) (g .0 .0) (g .1) .writes (c .before .before .put-node .ensures)
+    node-as (a .converter .policy) (a .converter .d) (a .b .now) (g .0 .0) (g .1) .writes (c .before .before .put-node .ensures)
 
 same-length-5 : tie.Need-same-length-5
 same-length-5 c = search needs
@@ -130,7 +130,7 @@ returns-5 c =
     let start = at-body5 .before .before .before .before in
     let a = start .args in
     let g = at-body5 .body5 .given in
-    reference-as (a .policy) (a .d) (a .b .now) (g .0 .0) (g .1) .writes (c .before .before .put-reference .ensures)
+    reference-as (a .converter .policy) (a .converter .d) (a .b .now) (g .0 .0) (g .1) .writes (c .before .before .put-reference .ensures)
 
 pub put-body-spec : {M : Type 1} → statement M
 put-body-spec =

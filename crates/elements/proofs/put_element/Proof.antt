@@ -22,7 +22,7 @@ blank-requires c κs = search needs
 returns : tie.Need-returns
 returns c =
     let a = c .before .before .before .before .before .before .args in
-    never-ill (a .policy) (a .d) (a .b .now) (a .part .now) (c .before .before .before .before .before .before .pre) (c .before .before .before .element .ensures) (c .before .enum-told .given .1)
+    never-ill (a .converter .policy) (a .converter .d) (a .b .now) (a .part .now) (c .before .before .before .before .before .before .pre) (c .before .before .before .element .ensures) (c .before .enum-told .given .1)
 
 kind-of-requires : tie.Need-kind-of-requires
 kind-of-requires c κs = search needs
@@ -39,9 +39,9 @@ put-body-requires c κs =
     let p = start .pre in
     let w = at-element .element .ensures in
     let g = at-body .body .given in
-    let l = both-fit (a .policy) (a .d) (a .b .now) (a .part .now) p w (g .0 .0) (g .0 .1 .0) (g .1) in
+    let l = both-fit (a .converter .policy) (a .converter .d) (a .b .now) (a .part .now) p w (g .0 .0) (g .0 .1 .0) (g .1) in
     let n = ap (λ (e : Entry). e .count) (c .blank2 .ensures) in
-    (body-inside (a .policy) (a .d) (a .b .now) (a .part .now) p w (g .0 .0) (g .0 .1 .0) (g .1), (body-accepted (a .policy) (a .d) (a .b .now) (a .part .now) p w (g .0 .0) (g .0 .1 .0) (g .1), (omega arith, omega arith)))
+    (body-inside (a .converter .policy) (a .converter .d) (a .b .now) (a .part .now) p w (g .0 .0) (g .0 .1 .0) (g .1), (body-accepted (a .converter .policy) (a .converter .d) (a .b .now) (a .part .now) p w (g .0 .0) (g .0 .1 .0) (g .1), (omega arith, omega arith)))
 
 put-tail-requires : tie.Need-put-tail-requires
 put-tail-requires c κs =
@@ -53,8 +53,8 @@ put-tail-requires c κs =
     let p = start .pre in
     let w = at-element .element .ensures in
     let g = at-body .body .given in
-    let l = tail-fits (a .policy) (a .d) (a .b .now) (a .part .now) p w (g .0 .0) (g .0 .1 .0) (g .1) _ (at-put-body .put-body .ensures) in
-    (tail-inside (a .policy) (a .d) (a .b .now) (a .part .now) p w (g .0 .0) (g .0 .1 .0) (g .1), (tail-accepted (a .policy) (a .d) (a .b .now) (a .part .now) p w (g .0 .0) (g .0 .1 .0) (g .1), omega arith))
+    let l = tail-fits (a .converter .policy) (a .converter .d) (a .b .now) (a .part .now) p w (g .0 .0) (g .0 .1 .0) (g .1) _ (at-put-body .put-body .ensures) in
+    (tail-inside (a .converter .policy) (a .converter .d) (a .b .now) (a .part .now) p w (g .0 .0) (g .0 .1 .0) (g .1), (tail-accepted (a .converter .policy) (a .converter .d) (a .b .now) (a .part .now) p w (g .0 .0) (g .0 .1 .0) (g .1), omega arith))
 
 same-length : tie.Need-same-length
 same-length c = search needs
@@ -71,7 +71,7 @@ returns-2 c =
     let g = at-body .body .given in
     let k = at-kind-of .kind-of in
     let e = at-blank2 .blank2 in
-    element-put (a .policy) (a .d) (a .b .now) (a .part .now) (start .pre) (at-element .element .ensures) (g .0 .0) (g .0 .1 .0) (g .1) (e .result) (at-put-body .put-body .ensures) (a .index) (k .result) (k .ensures) (e .ensures) (c .before .before .put-tail .ensures)
+    element-put (a .converter .policy) (a .converter .d) (a .b .now) (a .part .now) (start .pre) (at-element .element .ensures) (g .0 .0) (g .0 .1 .0) (g .1) (e .result) (at-put-body .put-body .ensures) (a .index) (k .result) (k .ensures) (e .ensures) (c .before .before .put-tail .ensures)
 
 pub put-element-spec : {M : Type 1} → statement M
 put-element-spec =

@@ -47,7 +47,7 @@ enum-known-ended c = search needs
 
 returns : tie.Need-returns
 unfolding pathAt
-returns c = let a = c .before .before .before .before .before .args in let p = pathAt (a .b .now) (a .path) in let r1 = c .before .before .before .convert-length in let g = c .before .refusal .given in width-stops (a .policy) (a .d) p (a .entry) (r1 .result) (r1 .ensures) (g .0 .0) (g .1)
+returns c = let a = c .before .before .before .before .before .args in let p = pathAt (a .b .now) (a .path) in let r1 = c .before .before .before .convert-length in let g = c .before .refusal .given in width-stops (a .converter .policy) (a .converter .d) p (a .entry) (r1 .result) (r1 .ensures) (g .0 .0) (g .1)
 
 returns-2 : tie.Need-returns-2
 unfolding pathAt
@@ -56,7 +56,7 @@ returns-2 c =
     let at-wide = at-convert-length2 .before .before in
     let at-convert-length = at-wide .before .before in
     let start = at-convert-length .before .before in
-    let a = start .args in let p = pathAt (a .b .now) (a .path) in let r1 = at-convert-length .convert-length in let g1 = at-wide .wide .given in let r2 = at-convert-length2 .convert-length2 in let g = c .before .refusal2 .given in begin-stops (a .policy) (a .d) p (a .entry) (r1 .result) (r1 .ensures) (g1 .0 .0) (g1 .0 .1 .0) (g1 .0 .1 .1 .0) (g1 .1) (r2 .result) (r2 .ensures) (g .0 .0) (g .1)
+    let a = start .args in let p = pathAt (a .b .now) (a .path) in let r1 = at-convert-length .convert-length in let g1 = at-wide .wide .given in let r2 = at-convert-length2 .convert-length2 in let g = c .before .refusal2 .given in begin-stops (a .converter .policy) (a .converter .d) p (a .entry) (r1 .result) (r1 .ensures) (g1 .0 .0) (g1 .0 .1 .0) (g1 .0 .1 .1 .0) (g1 .1) (r2 .result) (r2 .ensures) (g .0 .0) (g .1)
 
 returns-3 : tie.Need-returns-3
 unfolding pathAt
@@ -67,7 +67,7 @@ returns-3 c =
     let at-wide = at-convert-length2 .before .before in
     let at-convert-length = at-wide .before .before in
     let start = at-convert-length .before .before in
-    let a = start .args in let p = pathAt (a .b .now) (a .path) in let r1 = at-convert-length .convert-length in let g1 = at-wide .wide .given in let r2 = at-convert-length2 .convert-length2 in let g2 = at-begun .begun .given in let r3 = at-convert-length3 .convert-length3 in let g = c .before .refusal3 .given in end-stops (a .policy) (a .d) p (a .entry) (r1 .result) (r1 .ensures) (g1 .0 .0) (g1 .0 .1 .0) (g1 .0 .1 .1 .0) (g1 .1) (r2 .result) (r2 .ensures) (g2 .0 .0) (g2 .0 .1 .0) (g2 .0 .1 .1 .0) (g2 .1) (r3 .result) (r3 .ensures) (g .0 .0) (g .1)
+    let a = start .args in let p = pathAt (a .b .now) (a .path) in let r1 = at-convert-length .convert-length in let g1 = at-wide .wide .given in let r2 = at-convert-length2 .convert-length2 in let g2 = at-begun .begun .given in let r3 = at-convert-length3 .convert-length3 in let g = c .before .refusal3 .given in end-stops (a .converter .policy) (a .converter .d) p (a .entry) (r1 .result) (r1 .ensures) (g1 .0 .0) (g1 .0 .1 .0) (g1 .0 .1 .1 .0) (g1 .1) (r2 .result) (r2 .ensures) (g2 .0 .0) (g2 .0 .1 .0) (g2 .0 .1 .1 .0) (g2 .1) (r3 .result) (r3 .ensures) (g .0 .0) (g .1)
 
 returns-4 : tie.Need-returns-4
 unfolding pathAt
@@ -80,7 +80,7 @@ returns-4 c =
     let at-wide = at-known-told2 .before in
     let at-convert-length = at-wide .before .before in
     let start = at-convert-length .before .before in
-    let a = start .args in let p = pathAt (a .b .now) (a .path) in let r1 = at-convert-length .convert-length in let g1 = at-wide .wide .given in let r2 = at-convert-length2 .convert-length2 in let g2 = at-begun .begun .given in let r3 = at-convert-length3 .convert-length3 in let g3 = c .before .ended .given in let t1 = at-known-told2 .known-told2 .given in let f1 : SFits w32 (g1 .0 .1 .0) = search needs in let t2 = at-known-told4 .known-told4 .given in let f2 : SFits w32 (g2 .0 .1 .0) = search needs in let t3 = c .known-told6 .given in let f3 : SFits w32 (g3 .0 .1 .0) = search needs in all-there (a .policy) (a .d) p (a .entry) (r1 .result) (r1 .ensures) (g1 .0 .0) (g1 .0 .1 .0) (g1 .0 .1 .1 .0) (g1 .1) (r2 .result) (r2 .ensures) (g2 .0 .0) (g2 .0 .1 .0) (g2 .0 .1 .1 .0) (g2 .1) (r3 .result) (r3 .ensures) (g3 .0 .0) (g3 .0 .1 .0) (g3 .0 .1 .1 .0) (g3 .1) _ _ _ (toZ-ofZ w32 (g1 .0 .1 .0) f1) (toZ-ofZ w32 (g2 .0 .1 .0) f2) (toZ-ofZ w32 (g3 .0 .1 .0) f3)
+    let a = start .args in let p = pathAt (a .b .now) (a .path) in let r1 = at-convert-length .convert-length in let g1 = at-wide .wide .given in let r2 = at-convert-length2 .convert-length2 in let g2 = at-begun .begun .given in let r3 = at-convert-length3 .convert-length3 in let g3 = c .before .ended .given in let t1 = at-known-told2 .known-told2 .given in let f1 : SFits w32 (g1 .0 .1 .0) = search needs in let t2 = at-known-told4 .known-told4 .given in let f2 : SFits w32 (g2 .0 .1 .0) = search needs in let t3 = c .known-told6 .given in let f3 : SFits w32 (g3 .0 .1 .0) = search needs in all-there (a .converter .policy) (a .converter .d) p (a .entry) (r1 .result) (r1 .ensures) (g1 .0 .0) (g1 .0 .1 .0) (g1 .0 .1 .1 .0) (g1 .1) (r2 .result) (r2 .ensures) (g2 .0 .0) (g2 .0 .1 .0) (g2 .0 .1 .1 .0) (g2 .1) (r3 .result) (r3 .ensures) (g3 .0 .0) (g3 .0 .1 .0) (g3 .0 .1 .1 .0) (g3 .1) _ _ _ (toZ-ofZ w32 (g1 .0 .1 .0) f1) (toZ-ofZ w32 (g2 .0 .1 .0) f2) (toZ-ofZ w32 (g3 .0 .1 .0) f3)
 
 pub convert-lengths-spec : {M : Type 1} → statement M
 convert-lengths-spec =

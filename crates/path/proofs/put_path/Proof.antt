@@ -17,10 +17,10 @@ use Rattle.path.proofs.put_path.Statement.{statement}
 use Rattle.path.proofs.put_path.Tie as tie
 
 -- the lengths are those of all steps before the points
-front : (k : tie.After-convert-lengths) → GivesExtent (pathAt (k .before .before .before .args .b .now) (k .before .before .before .args .path)) (k .before .before .before .args .entry) (writeFront (k .before .before .before .args .policy) (k .before .before .before .args .d) (pathAt (k .before .before .before .args .b .now) (k .before .before .before .args .path))) (k .convert-lengths .result)
+front : (k : tie.After-convert-lengths) → GivesExtent (pathAt (k .before .before .before .args .b .now) (k .before .before .before .args .path)) (k .before .before .before .args .entry) (writeFront (k .before .before .before .args .converter .policy) (k .before .before .before .args .converter .d) (pathAt (k .before .before .before .args .b .now) (k .before .before .before .args .path))) (k .convert-lengths .result)
 front k =
     let a = k .before .before .before .args in
-    front-past (a .policy) (a .d) (pathAt (a .b .now) (a .path)) (k .before .before .before .pre .1 .0) (k .convert-lengths .ensures)
+    front-past (a .converter .policy) (a .converter .d) (pathAt (a .b .now) (a .path)) (k .before .before .before .pre .1 .0) (k .convert-lengths .ensures)
 
 convert-lengths-requires : tie.Need-convert-lengths-requires
 convert-lengths-requires c κs = search needs
@@ -46,7 +46,7 @@ put-head-requires c κs =
     let h = front (at-convert-lengths) in
     let g = at-wide .wide .given in
     let l = length-from (a .path .count) (a .b .now) (a .path .points) in
-    let k = front-counted (a .policy) (a .d) p (a .entry) r h (g .0 .0) (g .0 .1 .0) (g .0 .1 .1 .0) (g .0 .1 .1 .1 .0) (g .0 .1 .1 .1 .1 .0) (g .0 .1 .1 .1 .1 .1 .0) (g .0 .1 .1 .1 .1 .1 .1 .0) (g .1) in
+    let k = front-counted (a .converter .policy) (a .converter .d) p (a .entry) r h (g .0 .0) (g .0 .1 .0) (g .0 .1 .1 .0) (g .0 .1 .1 .1 .0) (g .0 .1 .1 .1 .1 .0) (g .0 .1 .1 .1 .1 .1 .0) (g .0 .1 .1 .1 .1 .1 .1 .0) (g .1) in
     let k1 = k .1 in
     let f = subst (ExtentFits p (a .entry .count)) (g .1) (h .fits) in
     let t = c .before .has-path-type in
@@ -67,7 +67,7 @@ put-points-requires c κs =
     let h = front (at-convert-lengths) in
     let g = at-wide .wide .given in
     let l = length-from (a .path .count) (a .b .now) (a .path .points) in
-    let k = front-counted (a .policy) (a .d) p (a .entry) r h (g .0 .0) (g .0 .1 .0) (g .0 .1 .1 .0) (g .0 .1 .1 .1 .0) (g .0 .1 .1 .1 .1 .0) (g .0 .1 .1 .1 .1 .1 .0) (g .0 .1 .1 .1 .1 .1 .1 .0) (g .1) in
+    let k = front-counted (a .converter .policy) (a .converter .d) p (a .entry) r h (g .0 .0) (g .0 .1 .0) (g .0 .1 .1 .0) (g .0 .1 .1 .1 .0) (g .0 .1 .1 .1 .1 .0) (g .0 .1 .1 .1 .1 .1 .0) (g .0 .1 .1 .1 .1 .1 .1 .0) (g .1) in
     let k1 = k .1 in
     let f = subst (ExtentFits p (a .entry .count)) (g .1) (h .fits) in
     let q = f .grown in
@@ -77,12 +77,12 @@ put-points-requires c κs =
     let u = at-put-head .put-head .ensures in
     let e = u .end in
     let o = u .long in
-    (start-2 .pre .0 .points-in, (omega arith, (points-succeed (a .policy) (a .d) p (start-2 .pre .1 .0), (omega arith, omega arith))))
+    (start-2 .pre .0 .points-in, (omega arith, (points-succeed (a .converter .policy) (a .converter .d) p (start-2 .pre .1 .0), (omega arith, omega arith))))
 
 returns : tie.Need-returns
 returns c =
     let a = c .before .before .before .before .before .args in
-    front-never (a .policy) (a .d) (pathAt (a .b .now) (a .path)) (c .before .before .before .before .before .pre .1 .0) (front (c .before .before)) (c .enum-told .given .1)
+    front-never (a .converter .policy) (a .converter .d) (pathAt (a .b .now) (a .path)) (c .before .before .before .before .before .pre .1 .0) (front (c .before .before)) (c .enum-told .given .1)
 
 same-length : tie.Need-same-length
 same-length c =
@@ -101,7 +101,7 @@ returns-2 c =
     let f2 : SFits w32 (g .0 .1 .1 .1 .0) = search needs in
     let f3 : SFits w32 (g .0 .1 .1 .1 .1 .1 .0) = search needs in
     let l = length-from (a .path .count) (a .b .now) (a .path .points) in
-    path-written (a .policy) (a .d) p (a .entry) (c .before .before .before .before .before .before .before .before .before .before .before .before .convert-lengths .result) (front (c .before .before .before .before .before .before .before .before .before .before .before .before)) (g .0 .0) (g .0 .1 .0) (g .0 .1 .1 .0) (g .0 .1 .1 .1 .0) (g .0 .1 .1 .1 .1 .0) (g .0 .1 .1 .1 .1 .1 .0) (g .0 .1 .1 .1 .1 .1 .1 .0) (g .1)
+    path-written (a .converter .policy) (a .converter .d) p (a .entry) (c .before .before .before .before .before .before .before .before .before .before .before .before .convert-lengths .result) (front (c .before .before .before .before .before .before .before .before .before .before .before .before)) (g .0 .0) (g .0 .1 .0) (g .0 .1 .1 .0) (g .0 .1 .1 .1 .0) (g .0 .1 .1 .1 .1 .0) (g .0 .1 .1 .1 .1 .1 .0) (g .0 .1 .1 .1 .1 .1 .1 .0) (g .1)
     _ (ap (λ (t : Bool). optionOf t (a .path .pathtype)) (c .before .before .before .before .before .before .before .before .has-path-type .ensures) ∙ type-back (a .path .pathtype)) (a .path .count) (sym l)
     _ _ _ (toZ-ofZ w32 (g .0 .1 .0) f1) (toZ-ofZ w32 (g .0 .1 .1 .1 .0) f2) (toZ-ofZ w32 (g .0 .1 .1 .1 .1 .1 .0) f3) _ _ _ _ _ (c .before .before .before .before .before .before .put-head .ensures) _ _ (c .before .before .put-points .ensures)
 

@@ -37,10 +37,10 @@ record Inv (policy : GdsRoundingPolicy) (d : Float) (b : List ℕ) (from n x0 y0
   rest : left policy d b n 1 from e₀ (pointOf x0 y0) (pointOf x0 y0) ≡ left policy d b n i at e (pointOf x0 y0) (pointOf x1 y1)
 
 abbrev Inv-loop : tie.InvT-loop
-Inv-loop policy d b from n x0 y0 i₀ at₀ x1₀ y1₀ e₀ i at x1 y1 e = Inv policy d b from n x0 y0 e₀ i at x1 y1 e
+Inv-loop converter b from n x0 y0 i₀ at₀ x1₀ y1₀ e₀ i at x1 y1 e = Inv (converter .policy) (converter .d) b from n x0 y0 e₀ i at x1 y1 e
 
 abbrev μ-loop : tie.MeasureT-loop
-μ-loop policy d b from n x0 y0 i₀ at₀ x1₀ y1₀ e₀ i at x1 y1 e = n - i
+μ-loop converter b from n x0 y0 i₀ at₀ x1₀ y1₀ e₀ i at x1 y1 e = n - i
 
 loop-holds : tie.Need-loop-holds Inv-loop μ-loop
 loop-holds c = record { from1 = search needs; within = search needs; place = search needs; small = search needs; rest = refl }
@@ -87,18 +87,18 @@ returns c =
     let x = at-convert-at .convert-at in
     let y = at-convert-at2 .convert-at2 in
     let r = at-record-point .record-point in
-    let h = point-recorded (a .policy) (a .d) (pointAt (a .b .now) (l .at)) (x .result) (y .result) (x .ensures) (y .ensures) 0 (l .i) (l .e) (r .result) (r .ensures) in
+    let h = point-recorded (a .converter .policy) (a .converter .d) (pointAt (a .b .now) (l .at)) (x .result) (y .result) (x .ensures) (y .ensures) 0 (l .i) (l .e) (r .result) (r .ensures) in
     let g = c .before .refusal .given in
     sym
-    (sym (ap (λ (p : Point ℤ). left (a .policy) (a .d) (a .b .now) (a .n) 1 (a .from) (a .entry) p p) (point-back (a .x0) (a .y0) (f .x0) (f .y0)))
+    (sym (ap (λ (p : Point ℤ). left (a .converter .policy) (a .converter .d) (a .b .now) (a .n) 1 (a .from) (a .entry) p p) (point-back (a .x0) (a .y0) (f .x0) (f .y0)))
     ∙ l .inv .rest
-    ∙ go-stop W.Refused (a .policy) (a .d) (a .n) (l .i) (a .b .now) (l .at) (l .e) (through (pointOf (ofZ w32 (a .x0)) (ofZ w32 (a .y0))) (pointOf (l .x1) (l .y1))) (at-loop-test .loop-test .taken) (r .result) h (g .0 .0) (g .1))
+    ∙ go-stop W.Refused (a .converter .policy) (a .converter .d) (a .n) (l .i) (a .b .now) (l .at) (l .e) (through (pointOf (ofZ w32 (a .x0)) (ofZ w32 (a .y0))) (pointOf (l .x1) (l .y1))) (at-loop-test .loop-test .taken) (r .result) h (g .0 .0) (g .1))
 
 enum-known-x-2 : tie.Need-enum-known-x-2 Inv-loop μ-loop
 enum-known-x-2 c = search needs
 
 -- where the ways through the loop's body meet: the point by its values, with the entry after it
-met : (c : tie.At-match-came Inv-loop μ-loop) → Converts (c .before .before .before .before .before .loop .e) (writePoint (c .before .before .before .before .before .before .before .args .policy) (c .before .before .before .before .before .before .before .args .d) 0 (c .before .before .before .before .before .loop .i) (pointAt (c .before .before .before .before .before .before .before .args .b .now) (c .before .before .before .before .before .loop .at)))
+met : (c : tie.At-match-came Inv-loop μ-loop) → Converts (c .before .before .before .before .before .loop .e) (writePoint (c .before .before .before .before .before .before .before .args .converter .policy) (c .before .before .before .before .before .before .before .args .converter .d) 0 (c .before .before .before .before .before .loop .i) (pointAt (c .before .before .before .before .before .before .before .args .b .now) (c .before .before .before .before .before .loop .at)))
     (P.At (toZ w32 (c .match .x1)) (toZ w32 (c .match .y1)) (c .match .e))
 unfolding pointAt
 met c =
@@ -112,14 +112,14 @@ met c =
     let g = w .1 .given in
     let fx : SFits w32 (g .0 .0) = search needs in
     let fy : SFits w32 (g .0 .1 .0) = search needs in
-    point-read (point-plain (a .policy) (a .d) (pointAt (a .b .now) (l .at)) (x .result) (y .result) (x .ensures) (y .ensures) 0 (l .i) (l .e) (g .0 .0) (g .0 .1 .0) (sym (g .1) ∙ p .ensures))
+    point-read (point-plain (a .converter .policy) (a .converter .d) (pointAt (a .b .now) (l .at)) (x .result) (y .result) (x .ensures) (y .ensures) 0 (l .i) (l .e) (g .0 .0) (g .0 .1 .0) (sym (g .1) ∙ p .ensures))
     (g .0 .0) (g .0 .1 .0) (l .e) refl fx fy (w .3) (w .4) (w .5))
     (λ w.
     let r = w .2 in
     let g = w .4 .given in
     let fx : SFits w32 (g .0 .0) = search needs in
     let fy : SFits w32 (g .0 .1 .0) = search needs in
-    point-read (point-recorded (a .policy) (a .d) (pointAt (a .b .now) (l .at)) (x .result) (y .result) (x .ensures) (y .ensures) 0 (l .i) (l .e) (r .result) (r .ensures))
+    point-read (point-recorded (a .converter .policy) (a .converter .d) (pointAt (a .b .now) (l .at)) (x .result) (y .result) (x .ensures) (y .ensures) 0 (l .i) (l .e) (r .result) (r .ensures))
     (g .0 .0) (g .0 .1 .0) (g .0 .1 .1 .0) (g .1) fx fy (w .6) (w .7) (w .8))
     (c .match .came)
 
@@ -146,7 +146,7 @@ loop-again c =
       place = omega arith;
       small = omega arith;
       rest = v .rest
-          ∙ go-on W.Refused (a .policy) (a .d) (a .n) (l .i) (a .b .now) (l .at) (l .e) (through (pointOf (ofZ w32 (a .x0)) (ofZ w32 (a .y0))) (pointOf (l .x1) (l .y1))) (c .before .before .before .before .loop-test .taken) _ t (toZ w32 (c .match .x1)) (toZ w32 (c .match .y1)) (c .match .e) refl;
+          ∙ go-on W.Refused (a .converter .policy) (a .converter .d) (a .n) (l .i) (a .b .now) (l .at) (l .e) (through (pointOf (ofZ w32 (a .x0)) (ofZ w32 (a .y0))) (pointOf (l .x1) (l .y1))) (c .before .before .before .before .loop-test .taken) _ t (toZ w32 (c .match .x1)) (toZ w32 (c .match .y1)) (c .match .e) refl;
     }
 
 returns-2 : tie.Need-returns-2 Inv-loop μ-loop
@@ -156,9 +156,9 @@ returns-2 c =
     let f = c .before .before .before .fits in
     let l = c .before .loop in
     sym
-    (sym (ap (λ (p : Point ℤ). left (a .policy) (a .d) (a .b .now) (a .n) 1 (a .from) (a .entry) p p) (point-back (a .x0) (a .y0) (f .x0) (f .y0)))
+    (sym (ap (λ (p : Point ℤ). left (a .converter .policy) (a .converter .d) (a .b .now) (a .n) 1 (a .from) (a .entry) p p) (point-back (a .x0) (a .y0) (f .x0) (f .y0)))
     ∙ l .inv .rest
-    ∙ go-end W.Refused (a .policy) (a .d) (a .n) (l .i) (a .b .now) (l .at) (l .e) (through (pointOf (ofZ w32 (a .x0)) (ofZ w32 (a .y0))) (pointOf (l .x1) (l .y1))) (c .loop-test .left))
+    ∙ go-end W.Refused (a .converter .policy) (a .converter .d) (a .n) (l .i) (a .b .now) (l .at) (l .e) (through (pointOf (ofZ w32 (a .x0)) (ofZ w32 (a .y0))) (pointOf (l .x1) (l .y1))) (c .loop-test .left))
 
 pub measure-rest-spec : {M : Type 1} → statement M
 measure-rest-spec =

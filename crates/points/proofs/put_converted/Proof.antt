@@ -38,16 +38,16 @@ record Inv (policy : GdsRoundingPolicy) (d : Float) (b : List ℕ) (from n : ℕ
   rest : run stopped e₀ (writePoints policy d 0 (pointsFrom n b from)) (putting pointsBytes start out₀) ≡ left policy d b n i at e to out
 
 abbrev Inv-loop : tie.InvT-loop
-Inv-loop policy d b from n out₀ start i₀ at₀ to₀ e₀ out i at to e = Inv policy d b from n out₀ start e₀ out i at to e
+Inv-loop converter b from n out₀ start i₀ at₀ to₀ e₀ out i at to e = Inv (converter .policy) (converter .d) b from n out₀ start e₀ out i at to e
 
 abbrev μ-loop : tie.MeasureT-loop
-μ-loop policy d b from n out₀ start i₀ at₀ to₀ e₀ out i at to e = n - i
+μ-loop converter b from n out₀ start i₀ at₀ to₀ e₀ out i at to e = n - i
 
 none-yet : (n : ℕ) → n ≡ n - 0
 none-yet n = omega arith
 
 -- where the ways through the loop's body meet: the point converted and put
-met : (c : tie.At-match-came Inv-loop μ-loop) → Turn (c .before .before .before .before .before .loop .e) (writePoint (c .before .before .before .before .before .before .before .before .args .policy) (c .before .before .before .before .before .before .before .before .args .d) 0 (c .before .before .before .before .before .loop .i) (pointAt (c .before .before .before .before .before .before .before .before .args .b .now) (c .before .before .before .before .before .loop .at)))
+met : (c : tie.At-match-came Inv-loop μ-loop) → Turn (c .before .before .before .before .before .loop .e) (writePoint (c .before .before .before .before .before .before .before .before .args .converter .policy) (c .before .before .before .before .before .before .before .before .args .converter .d) 0 (c .before .before .before .before .before .loop .i) (pointAt (c .before .before .before .before .before .before .before .before .args .b .now) (c .before .before .before .before .before .loop .at)))
     (c .before .before .before .before .before .loop .to) (c .before .before .before .before .before .loop .out) (c .match .to) (c .match .out) (c .match .e)
 unfolding pointAt
 met c =
@@ -61,14 +61,14 @@ met c =
     let g = w .1 .given in
     let fx : SFits w32 (g .0 .0) = search needs in
     let fy : SFits w32 (g .0 .1 .0) = search needs in
-    point-put (point-plain (a .policy) (a .d) (pointAt (a .b .now) (l .at)) (x .result) (y .result) (x .ensures) (y .ensures) 0 (l .i) (l .e) (g .0 .0) (g .0 .1 .0) (sym (g .1) ∙ p .ensures))
+    point-put (point-plain (a .converter .policy) (a .converter .d) (pointAt (a .b .now) (l .at)) (x .result) (y .result) (x .ensures) (y .ensures) 0 (l .i) (l .e) (g .0 .0) (g .0 .1 .0) (sym (g .1) ∙ p .ensures))
     (g .0 .0) (g .0 .1 .0) (l .e) refl fx fy (w .4 .ensures) (w .7) (w .8) (w .9))
     (λ w.
     let r = w .2 in
     let g = w .4 .given in
     let fx : SFits w32 (g .0 .0) = search needs in
     let fy : SFits w32 (g .0 .1 .0) = search needs in
-    point-put (point-recorded (a .policy) (a .d) (pointAt (a .b .now) (l .at)) (x .result) (y .result) (x .ensures) (y .ensures) 0 (l .i) (l .e) (r .result) (r .ensures))
+    point-put (point-recorded (a .converter .policy) (a .converter .d) (pointAt (a .b .now) (l .at)) (x .result) (y .result) (x .ensures) (y .ensures) 0 (l .i) (l .e) (r .result) (r .ensures))
     (g .0 .0) (g .0 .1 .0) (g .0 .1 .1 .0) (g .1) fx fy (w .7 .ensures) (w .10) (w .11) (w .12))
     (c .match .came)
 
@@ -81,8 +81,8 @@ never c =
     let x = c .before .before .before .before .before .before .before .convert-at in
     let y = c .before .before .before .before .before .before .convert-at2 in
     let r = c .before .before .record-point in
-    never-pointed (first-succeeds (a .policy) (a .d) (a .n) (l .i) (a .b .now) (l .at) (c .before .before .before .before .before .before .before .before .loop-test .taken) (l .inv .accepted) .point)
-    (point-recorded (a .policy) (a .d) (pointAt (a .b .now) (l .at)) (x .result) (y .result) (x .ensures) (y .ensures) 0 (l .i) (l .e) (r .result) (r .ensures)) (c .enum-told2 .given .1)
+    never-pointed (first-succeeds (a .converter .policy) (a .converter .d) (a .n) (l .i) (a .b .now) (l .at) (c .before .before .before .before .before .before .before .before .loop-test .taken) (l .inv .accepted) .point)
+    (point-recorded (a .converter .policy) (a .converter .d) (pointAt (a .b .now) (l .at)) (x .result) (y .result) (x .ensures) (y .ensures) 0 (l .i) (l .e) (r .result) (r .ensures)) (c .enum-told2 .given .1)
 
 loop-holds : tie.Need-loop-holds Inv-loop μ-loop
 loop-holds c =
@@ -92,10 +92,10 @@ loop-holds c =
       within = search needs;
       place = search needs;
       count = search needs;
-      accepted = subst (λ (j : ℕ). Succeeds (writePoints (a .policy) (a .d) 0 (pointsFrom j (a .b .now) (a .from)))) (none-yet (a .n)) (s .pre .1 .1 .0);
+      accepted = subst (λ (j : ℕ). Succeeds (writePoints (a .converter .policy) (a .converter .d) 0 (pointsFrom j (a .b .now) (a .from)))) (none-yet (a .n)) (s .pre .1 .1 .0);
       long = refl;
       small = search needs;
-      rest = whole-first stopped (a .policy) (a .d) (a .n) 0 (a .b .now) (a .from) (a .entry) (putting pointsBytes (a .start) (a .out .now));
+      rest = whole-first stopped (a .converter .policy) (a .converter .d) (a .n) 0 (a .b .now) (a .from) (a .entry) (putting pointsBytes (a .start) (a .out .now));
     }
 
 convert-at-requires : tie.Need-convert-at-requires Inv-loop μ-loop
@@ -170,12 +170,12 @@ loop-again c =
       within = search needs;
       place = omega arith;
       count = omega arith;
-      accepted = first-succeeds (a .policy) (a .d) (a .n) (l .i) (a .b .now) (l .at) h (v .accepted) .rest;
+      accepted = first-succeeds (a .converter .policy) (a .converter .d) (a .n) (l .i) (a .b .now) (l .at) h (v .accepted) .rest;
       long = length-at w ∙ v .long;
       small = omega arith;
       rest = v .rest
-          ∙ go-on stopped (a .policy) (a .d) (a .n) (l .i) (a .b .now) (l .at) (l .e) (putting pointsBytes (l .to) (l .out)) h _ (t .converts) (t .x) (t .y) (m .e) refl
-          ∙ run-same stopped (m .e) (writePoints (a .policy) (a .d) (l .i + 1) (pointsFrom (a .n - (l .i + 1)) (a .b .now) (l .at + 34))) _ _ (put-turn (t .x) (t .y) w);
+          ∙ go-on stopped (a .converter .policy) (a .converter .d) (a .n) (l .i) (a .b .now) (l .at) (l .e) (putting pointsBytes (l .to) (l .out)) h _ (t .converts) (t .x) (t .y) (m .e) refl
+          ∙ run-same stopped (m .e) (writePoints (a .converter .policy) (a .converter .d) (l .i + 1) (pointsFrom (a .n - (l .i + 1)) (a .b .now) (l .at + 34))) _ _ (put-turn (t .x) (t .y) w);
     }
 
 same-length-2 : tie.Need-same-length-2 Inv-loop μ-loop
@@ -189,8 +189,8 @@ returns-2 c =
     let i = v .within in
     let j = v .count in
     let room = c .before .before .before .before .pre .1 .1 .1 .0 in
-    writes pointsBytes (a .entry) (writePoints (a .policy) (a .d) 0 (pointsFrom (a .n) (a .b .now) (a .from))) (a .start) (a .out .now) (l .out) (l .to) (l .e)
-    (v .rest ∙ go-end stopped (a .policy) (a .d) (a .n) (l .i) (a .b .now) (l .at) (l .e) (putting pointsBytes (l .to) (l .out)) (c .loop-test .left) ∙ put-end (l .to) (l .out) (l .e)) (omega arith)
+    writes pointsBytes (a .entry) (writePoints (a .converter .policy) (a .converter .d) 0 (pointsFrom (a .n) (a .b .now) (a .from))) (a .start) (a .out .now) (l .out) (l .to) (l .e)
+    (v .rest ∙ go-end stopped (a .converter .policy) (a .converter .d) (a .n) (l .i) (a .b .now) (l .at) (l .e) (putting pointsBytes (l .to) (l .out)) (c .loop-test .left) ∙ put-end (l .to) (l .out) (l .e)) (omega arith)
 
 pub put-converted-spec : {M : Type 1} → statement M
 put-converted-spec =

@@ -30,12 +30,12 @@ measure-points-requires c κs =
 returns : tie.Need-returns
 returns c =
     let a = c .before .before .before .before .before .args in
-    shape-stops (a .policy) (a .d) (a .least) (a .most) (a .b .now) (a .places) W.Refused (a .entry) shapeEnds (c .before .refusal .given .0 .0) (ap checkOf (sym (c .before .refusal .given .1)) ∙ c .before .before .before .check-shape .ensures)
+    shape-stops (a .converter .policy) (a .converter .d) (a .least) (a .most) (a .b .now) (a .places) W.Refused (a .entry) shapeEnds (c .before .refusal .given .0 .0) (ap checkOf (sym (c .before .refusal .given .1)) ∙ c .before .before .before .check-shape .ensures)
 
 returns-2 : tie.Need-returns-2
 returns-2 c =
     let a = c .before .before .before .before .before .args in
-    c .measure-points .ensures ∙ shape-goes-on (a .policy) (a .d) (a .least) (a .most) (a .b .now) (a .places) W.Refused (a .entry) shapeEnds (ap checkOf (sym (c .before .enum-told .given .1)) ∙ c .before .before .before .check-shape .ensures)
+    c .measure-points .ensures ∙ shape-goes-on (a .converter .policy) (a .converter .d) (a .least) (a .most) (a .b .now) (a .places) W.Refused (a .entry) shapeEnds (ap checkOf (sym (c .before .enum-told .given .1)) ∙ c .before .before .before .check-shape .ensures)
 
 pub measure-shape-spec : {M : Type 1} → statement M
 measure-shape-spec =

@@ -16,9 +16,9 @@ put-shape-requires c κs =
     let a = c .before .before .before .args in
     let p = c .before .before .before .pre in
     let s = shapeAt (a .b .now) (a .places) in
-    let n = polygon-counted (a .policy) (a .d) s (p .1 .0) in
+    let n = polygon-counted (a .converter .policy) (a .converter .d) s (p .1 .0) in
     let l = length-from (a .places .count) (a .b .now) (a .places .points) in
-    (p .0, (omega arith, (subst Succeeds (polygon-is (a .policy) (a .d) s (p .1 .0)) (p .1 .0), (p .1 .1 .0, p .1 .1 .1))))
+    (p .0, (omega arith, (subst Succeeds (polygon-is (a .converter .policy) (a .converter .d) s (p .1 .0)) (p .1 .0), (p .1 .1 .0, p .1 .1 .1))))
 
 same-length : tie.Need-same-length
 same-length c = search needs
@@ -26,7 +26,7 @@ same-length c = search needs
 returns : tie.Need-returns
 returns c =
     let a = c .before .before .before .before .before .before .args in
-    same-step (sym (polygon-is (a .policy) (a .d) (shapeAt (a .b .now) (a .places)) (c .before .before .before .before .before .before .pre .1 .0))) (c .before .before .put-shape .ensures)
+    same-step (sym (polygon-is (a .converter .policy) (a .converter .d) (shapeAt (a .b .now) (a .places)) (c .before .before .before .before .before .before .pre .1 .0))) (c .before .before .put-shape .ensures)
 
 pub put-polygon-spec : {M : Type 1} → statement M
 put-polygon-spec =

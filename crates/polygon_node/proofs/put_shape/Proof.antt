@@ -30,7 +30,7 @@ put-points-requires c κs =
     let h = at-put-shape-head .put-shape-head .ensures in
     let i = h .end in
     let j = h .long in
-    (p .0 .points-in, (p .1 .0, (points-succeed (a .policy) (a .d) (shapeAt (a .b .now) (a .places)) (p .1 .1 .0), (omega arith, p .1 .1 .1 .1))))
+    (p .0 .points-in, (p .1 .0, (points-succeed (a .converter .policy) (a .converter .d) (shapeAt (a .b .now) (a .places)) (p .1 .1 .0), (omega arith, p .1 .1 .1 .1))))
 
 same-length : tie.Need-same-length
 same-length c = search needs
@@ -40,7 +40,7 @@ returns c =
     let at-put-shape-head = c .before .before .before .before .before .before in
     let start = at-put-shape-head .before .before .before .before .before in
     let a = start .args in
-    shape-put (a .policy) (a .d) (a .b .now) (a .places) (a .entry) (a .code) (a .type-code) (4 + 8 * a .places .count) refl (at-put-shape-head .put-shape-head .ensures) (c .before .before .put-points .ensures)
+    shape-put (a .converter .policy) (a .converter .d) (a .b .now) (a .places) (a .entry) (a .code) (a .type-code) (4 + 8 * a .places .count) refl (at-put-shape-head .put-shape-head .ensures) (c .before .before .put-points .ensures)
 
 pub put-shape-spec : {M : Type 1} → statement M
 put-shape-spec =

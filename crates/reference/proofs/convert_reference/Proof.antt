@@ -24,14 +24,14 @@ returns : tie.Need-returns
 returns c =
     let a = c .before .before .before .before .before .args in
     let g = c .before .refusal .given in
-    transform-stops (a .policy) (a .d) (a .b .now) (a .s) (a .entry) (g .0 .0) (sym (ap transformOf (g .1)) ∙ c .before .before .before .write-transformation .ensures)
+    transform-stops (a .converter .policy) (a .converter .d) (a .b .now) (a .s) (a .entry) (g .0 .0) (sym (ap transformOf (g .1)) ∙ c .before .before .before .write-transformation .ensures)
 
 returns-2 : tie.Need-returns-2
 returns-2 c =
     let a = c .before .before .before .before .before .before .args in
     let g = c .before .before .strans .given in
     let r = c .place-reference in
-    transform-goes-on (a .policy) (a .d) (a .b .now) (a .s) (a .entry) (g .0 .0) (sym (ap transformOf (g .1)) ∙ c .before .before .before .before .write-transformation .ensures) (r .result) (r .ensures)
+    transform-goes-on (a .converter .policy) (a .converter .d) (a .b .now) (a .s) (a .entry) (g .0 .0) (sym (ap transformOf (g .1)) ∙ c .before .before .before .before .write-transformation .ensures) (r .result) (r .ensures)
 
 pub convert-reference-spec : {M : Type 1} → statement M
 convert-reference-spec =

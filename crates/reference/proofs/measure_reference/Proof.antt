@@ -21,8 +21,8 @@ enum-known-strans c = search needs
 front-length-requires : tie.Need-front-length-requires
 front-length-requires c κs = search needs
 
-add-t14 : tie.Need-add-t14
-add-t14 c =
+add-t13 : tie.Need-add-t13
+add-t13 c =
     let l = c .front-length .ensures .1 in
     search needs
 
@@ -32,8 +32,8 @@ enum-known-strans2 c = search needs
 front-length-requires-2 : tie.Need-front-length-requires-2
 front-length-requires-2 c κs = search needs
 
-add-t16 : tie.Need-add-t16
-add-t16 c =
+add-t15 : tie.Need-add-t15
+add-t15 c =
     let l = c .front-length2 .ensures .1 in
     search needs
 
@@ -75,10 +75,10 @@ measure-reference-spec =
     enum-known-refusal
     enum-known-strans
     front-length-requires
-    add-t14
+    add-t13
     enum-known-strans2
     front-length-requires-2
-    add-t16
+    add-t15
     returns
     returns-2
     returns-3)

@@ -36,7 +36,7 @@ returns c =
     let r = c .before .before .before .convert-point in
     let h = sym (c .before .before .before .before .before .is-single .ensures) ∙ c .before .before .before .before .if1 .taken in
     let g = c .before .refusal .given in
-    single-stops (a .policy) (a .d) (a .b .now) (a .s) (a .strans) (a .entry) (p .1 .0) (p .1 .1 .0) h (r .result) (r .ensures) (g .0 .0) (g .1)
+    single-stops (a .converter .policy) (a .converter .d) (a .b .now) (a .s) (a .strans) (a .entry) (p .1 .0) (p .1 .1 .0) h (r .result) (r .ensures) (g .0 .0) (g .1)
 
 returns-2 : tie.Need-returns-2
 returns-2 c =
@@ -48,7 +48,7 @@ returns-2 c =
     let k = c .known-told2 .given in
     let f : SFits w32 (g .0 .0) = search needs in
     let f2 : SFits w32 (g .0 .1 .0) = search needs in
-    single-made (a .policy) (a .d) (a .b .now) (a .s) (a .strans) (a .entry) (p .1 .0) (p .1 .1 .0) h (r .result) (r .ensures) (g .0 .0) (g .0 .1 .0) (g .0 .1 .1 .0) (g .1) _ _ (toZ-ofZ w32 (g .0 .0) f) (toZ-ofZ w32 (g .0 .1 .0) f2)
+    single-made (a .converter .policy) (a .converter .d) (a .b .now) (a .s) (a .strans) (a .entry) (p .1 .0) (p .1 .1 .0) h (r .result) (r .ensures) (g .0 .0) (g .0 .1 .0) (g .0 .1 .1 .0) (g .1) _ _ (toZ-ofZ w32 (g .0 .0) f) (toZ-ofZ w32 (g .0 .1 .0) f2)
 
 returns-3 : tie.Need-returns-3
 returns-3 c =
@@ -57,7 +57,7 @@ returns-3 c =
     let r = c .before .before .before .turned-array in
     let h = sym (c .before .before .before .before .before .is-single .ensures) ∙ c .before .before .before .before .if1 .left in
     let g = c .before .refusal2 .given in
-    array-stops (a .policy) (a .d) (a .b .now) (a .s) (a .strans) (a .entry) (p .1 .0) (p .1 .1 .0) h (r .result) (r .ensures) (g .0 .0) (g .1)
+    array-stops (a .converter .policy) (a .converter .d) (a .b .now) (a .s) (a .strans) (a .entry) (p .1 .0) (p .1 .1 .0) h (r .result) (r .ensures) (g .0 .0) (g .1)
 
 returns-4 : tie.Need-returns-4
 returns-4 c =
@@ -66,7 +66,7 @@ returns-4 c =
     let r = c .before .before .before .turned-array in
     let h = sym (c .before .before .before .before .before .is-single .ensures) ∙ c .before .before .before .before .if1 .left in
     let g = c .before .corners .given in
-    array-made (a .policy) (a .d) (a .b .now) (a .s) (a .strans) (a .entry) (p .1 .0) (p .1 .1 .0) h (r .result) (r .ensures) (g .0 .0) (g .0 .1 .0) (g .1)
+    array-made (a .converter .policy) (a .converter .d) (a .b .now) (a .s) (a .strans) (a .entry) (p .1 .0) (p .1 .1 .0) h (r .result) (r .ensures) (g .0 .0) (g .0 .1 .0) (g .1)
 
 pub place-reference-spec : {M : Type 1} → statement M
 place-reference-spec =

@@ -16,16 +16,16 @@ use Rattle.reference.proofs.put_reference.Statement.{statement}
 use Rattle.reference.proofs.put_reference.Tie as tie
 
 -- the values are the definition's
-values : (k : tie.After-convert-reference) → Values (k .before .before .before .args .b .now) (k .before .before .before .args .reference) (k .before .before .before .args .entry) (writeReference (k .before .before .before .args .policy) (k .before .before .before .args .d) (referenceAt (k .before .before .before .args .b .now) (k .before .before .before .args .reference))) (k .convert-reference .result)
+values : (k : tie.After-convert-reference) → Values (k .before .before .before .args .b .now) (k .before .before .before .args .reference) (k .before .before .before .args .entry) (writeReference (k .before .before .before .args .converter .policy) (k .before .before .before .args .converter .d) (referenceAt (k .before .before .before .args .b .now) (k .before .before .before .args .reference))) (k .convert-reference .result)
 values k =
     let a = k .before .before .before .args in
-    reference-past (a .policy) (a .d) (a .b .now) (a .reference) (a .entry) (k .before .before .before .pre .1 .0) (k .convert-reference .ensures)
+    reference-past (a .converter .policy) (a .converter .d) (a .b .now) (a .reference) (a .entry) (k .before .before .before .pre .1 .0) (k .convert-reference .ensures)
 
 convert-reference-requires : tie.Need-convert-reference-requires
 convert-reference-requires c κs =
     let a = c .before .before .args in
     let p = c .before .before .pre in
-    (p .0, (reference-bounded (a .policy) (a .d) (a .b .now) (a .reference) (a .entry) (p .1 .0) (p .0 .name-in), p .1 .1 .0))
+    (p .0, (reference-bounded (a .converter .policy) (a .converter .d) (a .b .now) (a .reference) (a .entry) (p .1 .0) (p .0 .name-in), p .1 .1 .0))
 
 enum-told : tie.Need-enum-told
 enum-told c = search needs
@@ -53,7 +53,7 @@ put-aref-at-requires c κs =
 returns : tie.Need-returns
 returns c =
     let a = c .before .before .before .before .before .args in
-    reference-never (a .policy) (a .d) (a .b .now) (a .reference) (a .entry) (c .before .before .before .before .before .pre .1 .0) (values (c .before .before)) (c .enum-told .given .1)
+    reference-never (a .converter .policy) (a .converter .d) (a .b .now) (a .reference) (a .entry) (c .before .before .before .before .before .pre .1 .0) (values (c .before .before)) (c .enum-told .given .1)
 
 same-length : tie.Need-same-length
 same-length c = c .before .before .put-sref-at .ensures .long

@@ -27,13 +27,13 @@ returns : tie.Need-returns
 returns c =
     let a = c .before .before .before .before .before .args in
     let g = c .before .refusal .given in
-    checks-stop (a .policy) (a .d) (a .b .now) (a .s) (a .entry) (g .0 .0) (λ m. subst (λ (q : Check). guardedBy q m ≡ guarded (referenceAt (a .b .now) (a .s)) m) (g .1) (c .before .before .before .check-reference .ensures .is m))
+    checks-stop (a .converter .policy) (a .converter .d) (a .b .now) (a .s) (a .entry) (g .0 .0) (λ m. subst (λ (q : Check). guardedBy q m ≡ guarded (referenceAt (a .b .now) (a .s)) m) (g .1) (c .before .before .before .check-reference .ensures .is m))
 
 returns-2 : tie.Need-returns-2
 returns-2 c =
     let a = c .before .before .before .before .before .args in
     let r = c .convert-reference in
-    checks-pass (a .policy) (a .d) (a .b .now) (a .s) (a .entry) (λ m. subst (λ (q : Check). guardedBy q m ≡ guarded (referenceAt (a .b .now) (a .s)) m) (c .before .enum-told .given .1) (c .before .before .before .check-reference .ensures .is m)) (r .result) (r .ensures)
+    checks-pass (a .converter .policy) (a .converter .d) (a .b .now) (a .s) (a .entry) (λ m. subst (λ (q : Check). guardedBy q m ≡ guarded (referenceAt (a .b .now) (a .s)) m) (c .before .enum-told .given .1) (c .before .before .before .check-reference .ensures .is m)) (r .result) (r .ensures)
 
 pub reference-values-spec : {M : Type 1} → statement M
 reference-values-spec =

@@ -16,7 +16,7 @@ returns : tie.Need-returns
 unfolding referenceAt
 returns c =
     let a = c .before .before .before .args in
-    sine-stops A.Refused (a .entry) (a .policy) (a .d) (referenceAt (a .b .now) (a .s)) (cornered (a .s .columns) (a .s .rows)) (c .before .in-unit .result) (c .before .in-unit .ensures) (not-true _ (c .if1 .taken))
+    sine-stops A.Refused (a .entry) (a .converter .policy) (a .converter .d) (referenceAt (a .b .now) (a .s)) (cornered (a .s .columns) (a .s .rows)) (c .before .in-unit .result) (c .before .in-unit .ensures) (not-true _ (c .if1 .taken))
 
 in-unit-requires-2 : tie.Need-in-unit-requires-2
 in-unit-requires-2 c κs = search needs
@@ -25,7 +25,7 @@ returns-2 : tie.Need-returns-2
 unfolding referenceAt
 returns-2 c =
     let a = c .before .before .before .before .before .args in
-    cosine-stops A.Refused (a .entry) (a .policy) (a .d) (referenceAt (a .b .now) (a .s)) (cornered (a .s .columns) (a .s .rows)) (c .before .before .before .in-unit .result) (c .before .before .before .in-unit .ensures) (not-false _ (c .before .before .if1 .left)) (c .before .in-unit2 .result) (c .before .in-unit2 .ensures) (not-true _ (c .if2 .taken))
+    cosine-stops A.Refused (a .entry) (a .converter .policy) (a .converter .d) (referenceAt (a .b .now) (a .s)) (cornered (a .s .columns) (a .s .rows)) (c .before .before .before .in-unit .result) (c .before .before .before .in-unit .ensures) (not-false _ (c .before .before .if1 .left)) (c .before .in-unit2 .result) (c .before .in-unit2 .ensures) (not-true _ (c .if2 .taken))
 
 convert-array-requires : tie.Need-convert-array-requires
 convert-array-requires c κs = search needs
@@ -34,7 +34,7 @@ returns-3 : tie.Need-returns-3
 unfolding referenceAt
 returns-3 c =
     let a = c .before .before .before .before .before .before .args in
-    c .convert-array .ensures ∙ turned-on A.Refused (a .entry) (a .policy) (a .d) (referenceAt (a .b .now) (a .s)) (cornered (a .s .columns) (a .s .rows)) (c .before .before .before .before .in-unit .result) (c .before .before .before .before .in-unit .ensures) (not-false _ (c .before .before .before .if1 .left)) (c .before .before .in-unit2 .result) (c .before .before .in-unit2 .ensures) (not-false _ (c .before .if2 .left))
+    c .convert-array .ensures ∙ turned-on A.Refused (a .entry) (a .converter .policy) (a .converter .d) (referenceAt (a .b .now) (a .s)) (cornered (a .s .columns) (a .s .rows)) (c .before .before .before .before .in-unit .result) (c .before .before .before .before .in-unit .ensures) (not-false _ (c .before .before .before .if1 .left)) (c .before .before .in-unit2 .result) (c .before .before .in-unit2 .ensures) (not-false _ (c .before .if2 .left))
 
 pub turned-array-spec : {M : Type 1} → statement M
 turned-array-spec =

@@ -39,10 +39,10 @@ same : {x a : ℕ} → x ≡ a → x ≡ a + 0
 same {x} {a} e = e ∙ sym (add-zero a)
 
 abbrev Inv-loop : tie.InvT-loop
-Inv-loop policy d pitch n clean₀ due₀ refused₀ i₀ clean due refused i = Inv policy d pitch n clean due refused i
+Inv-loop converter pitch n clean₀ due₀ refused₀ i₀ clean due refused i = Inv (converter .policy) (converter .d) pitch n clean due refused i
 
 abbrev μ-loop : tie.MeasureT-loop
-μ-loop policy d pitch n clean₀ due₀ refused₀ i₀ clean due refused i = n - i
+μ-loop converter pitch n clean₀ due₀ refused₀ i₀ clean due refused i = n - i
 
 loop-holds : tie.Need-loop-holds Inv-loop μ-loop
 unfolding counted countOf
@@ -84,7 +84,7 @@ loop-again c =
     let t = c .before .before .before .loop-test .taken in
     let r = c .before .place in
     let a = c .before .before .before .before .before .args in
-    let found = next (a .policy) (a .d) (a .pitch) (l .i) (r .result) (r .ensures) in
+    let found = next (a .converter .policy) (a .converter .d) (a .pitch) (l .i) (r .result) (r .ensures) in
     ⊎-elim
     (λ w. one-more (l .inv) t P.Clean (found P.Clean (w .1 .given .1)) (w .2) (same (w .3)) (same (w .4)))
     (⊎-elim
@@ -98,7 +98,7 @@ returns c =
     let l = c .before .loop in
     let v = l .inv in
     let e : l .i ≡ a .n = omega (arith, v .to, c .loop-test .left) in
-    counts-at (a .policy) (a .d) (a .pitch) (a .n) (l .i) e (v .clean) (v .due) (v .refused)
+    counts-at (a .converter .policy) (a .converter .d) (a .pitch) (a .n) (l .i) e (v .clean) (v .due) (v .refused)
 
 pub count-places-spec : {M : Type 1} → statement M
 count-places-spec =

@@ -22,19 +22,19 @@ returns : tie.Need-returns
 returns c =
     let v = c .before .before .convert-physical in
     let a = c .before .before .before .args in
-    placed-by (a .policy) (a .d) (a .p) (v .result) _ P.Refused (v .ensures) (c .enum-told .given .1) (λ at. refl)
+    placed-by (a .converter .policy) (a .converter .d) (a .p) (v .result) _ P.Refused (v .ensures) (c .enum-told .given .1) (λ at. refl)
 
 returns-2 : tie.Need-returns-2
 returns-2 c =
     let v = c .before .before .convert-physical in
     let a = c .before .before .before .args in
-    placed-by (a .policy) (a .d) (a .p) (v .result) _ P.Clean (v .ensures) (c .enum-told2 .given .1) (λ at. refl)
+    placed-by (a .converter .policy) (a .converter .d) (a .p) (v .result) _ P.Clean (v .ensures) (c .enum-told2 .given .1) (λ at. refl)
 
 returns-3 : tie.Need-returns-3
 returns-3 c =
     let v = c .before .before .convert-physical in
     let a = c .before .before .before .args in
-    placed-by (a .policy) (a .d) (a .p) (v .result) _ P.Due (v .ensures) (c .enum-told3 .given .1) (λ at. refl)
+    placed-by (a .converter .policy) (a .converter .d) (a .p) (v .result) _ P.Due (v .ensures) (c .enum-told3 .given .1) (λ at. refl)
 
 pub place-spec : {M : Type 1} → statement M
 place-spec = tie.close (tie.spec convert-physical-requires enum-told enum-told-2 enum-told-3 returns returns-2 returns-3)

@@ -22,14 +22,14 @@ returns : tie.Need-returns
 returns c =
     let f = c .before .before .places-fit in
     let a = c .before .before .before .args in
-    not-fitting (a .policy) (a .d) (a .pitch) (a .n) (sym (f .ensures) ∙ not-true (f .result) (c .if1 .taken))
+    not-fitting (a .converter .policy) (a .converter .d) (a .pitch) (a .n) (sym (f .ensures) ∙ not-true (f .result) (c .if1 .taken))
 
 returns-2 : tie.Need-returns-2
 returns-2 c =
     let k = c .before in
     let f = k .before .is-finite in
     let a = k .before .before .before .args in
-    not-finite (a .policy) (a .d) (a .pitch) (a .n) (fitting k) (sym (f .ensures) ∙ not-true (f .result) (c .if2 .taken))
+    not-finite (a .converter .policy) (a .converter .d) (a .pitch) (a .n) (fitting k) (sym (f .ensures) ∙ not-true (f .result) (c .if2 .taken))
 
 count-places-requires : tie.Need-count-places-requires
 count-places-requires c κs = search needs
@@ -39,7 +39,7 @@ returns-3 c =
     let k = c .before .before in
     let f = k .before .is-finite in
     let a = k .before .before .before .args in
-    counts-are (a .policy) (a .d) (a .pitch) (a .n) (fitting k) (sym (f .ensures) ∙ not-false (f .result) (c .before .if2 .left)) _ (c .count-places .ensures)
+    counts-are (a .converter .policy) (a .converter .d) (a .pitch) (a .n) (fitting k) (sym (f .ensures) ∙ not-false (f .result) (c .before .if2 .left)) _ (c .count-places .ensures)
 
 pub survey-of-spec : {M : Type 1} → statement M
 survey-of-spec = tie.close (tie.spec places-fit-requires is-finite-requires returns returns-2 count-places-requires returns-3)

@@ -36,7 +36,7 @@ unfolding textAt
 returns c =
     let a = c .before .before .before .before .before .args in
     let g = c .before .refusal .given in
-    text-transform stopped (a .entry) ready (a .policy) (a .d) (textAt (a .b .now) (a .text)) (g .0 .0) (ap transformOf (sym (g .1)) ∙ c .before .before .before .write-transformation .ensures)
+    text-transform stopped (a .entry) ready (a .converter .policy) (a .converter .d) (textAt (a .b .now) (a .text)) (g .0 .0) (ap transformOf (sym (g .1)) ∙ c .before .before .before .write-transformation .ensures)
 
 returns-2 : tie.Need-returns-2
 unfolding textAt
@@ -49,7 +49,7 @@ returns-2 c =
     let t = at-strans .strans .given in
     let p = at-convert-point .convert-point in
     let g = c .before .refusal2 .given in
-    text-origin stopped (a .entry) ready (a .policy) (a .d) (textAt (a .b .now) (a .text)) (saidOf (t .0 .0)) (ap transformOf (sym (t .1)) ∙ at-write-transformation .write-transformation .ensures) (p .result) (p .ensures) (g .0 .0) (g .1)
+    text-origin stopped (a .entry) ready (a .converter .policy) (a .converter .d) (textAt (a .b .now) (a .text)) (saidOf (t .0 .0)) (ap transformOf (sym (t .1)) ∙ at-write-transformation .write-transformation .ensures) (p .result) (p .ensures) (g .0 .0) (g .1)
 
 returns-3 : tie.Need-returns-3
 unfolding textAt
@@ -69,7 +69,7 @@ returns-3 c =
     let h : SFits w32 y = search needs in
     ap₂ (λ (z w : ℤ). ready (textOf (a .b .now) (a .text) (t .0 .0) z w) e) (toZ-ofZ w32 x f) (toZ-ofZ w32 y h)
     ∙ ap (λ (w : SaidText). ready w e) (sym (said-of (a .b .now) (a .text) (t .0 .0) x y))
-    ∙ text-through stopped (a .entry) ready (a .policy) (a .d) (textAt (a .b .now) (a .text)) (saidOf (t .0 .0)) (ap transformOf (sym (t .1)) ∙ at-write-transformation .write-transformation .ensures) (p .result) (p .ensures) x y e (g .1)
+    ∙ text-through stopped (a .entry) ready (a .converter .policy) (a .converter .d) (textAt (a .b .now) (a .text)) (saidOf (t .0 .0)) (ap transformOf (sym (t .1)) ∙ at-write-transformation .write-transformation .ensures) (p .result) (p .ensures) x y e (g .1)
 
 pub convert-text-spec : {M : Type 1} → statement M
 convert-text-spec =

@@ -18,7 +18,7 @@ short k =
     let a = s .args in
     let g = k .before .strans .given in
     let r = k .before .before .before .text-values in
-    ready-short (a .b .now) (a .text) (s .pre .0 .string-in) (a .policy) (a .d) (a .entry) (r .result) (r .ensures) (g .0 .0) (g .0 .1 .0) (g .0 .1 .1 .0) (g .0 .1 .1 .1 .0) (g .1)
+    ready-short (a .b .now) (a .text) (s .pre .0 .string-in) (a .converter .policy) (a .converter .d) (a .entry) (r .result) (r .ensures) (g .0 .0) (g .0 .1 .0) (g .0 .1 .1 .0) (g .0 .1 .1 .1 .0) (g .1)
 
 -- so are the two lengths, and no sum of them overflows
 small : (k : tie.After-strans-length) → k .strans-length .result + k .before .string-length .result ≤ 542
@@ -46,17 +46,17 @@ string-length-requires c κs = search needs
 strans-length-requires : tie.Need-strans-length-requires
 strans-length-requires c κs = search needs
 
+add-t12 : tie.Need-add-t12
+add-t12 c = omega (arith, small c)
+
 add-t13 : tie.Need-add-t13
 add-t13 c = omega (arith, small c)
 
 add-t14 : tie.Need-add-t14
 add-t14 c = omega (arith, small c)
 
-add-t15 : tie.Need-add-t15
-add-t15 c = omega (arith, small c)
-
-add-t17 : tie.Need-add-t17
-add-t17 c = omega (arith, small c)
+add-t16 : tie.Need-add-t16
+add-t16 c = omega (arith, small c)
 
 returns : tie.Need-returns
 returns c =
@@ -85,9 +85,9 @@ measure-text-spec =
     enum-known-strans
     string-length-requires
     strans-length-requires
+    add-t12
     add-t13
     add-t14
-    add-t15
-    add-t17
+    add-t16
     returns
     returns-2)

@@ -17,10 +17,10 @@ use Rattle.text.proofs.put_text.Statement.{statement}
 use Rattle.text.proofs.put_text.Tie as tie
 
 -- the values are the definition's
-is : (k : tie.After-convert-text) → readyOf (k .before .before .before .args .b .now) (k .before .before .before .args .text) (k .convert-text .result) ≡ run stopped (k .before .before .before .args .entry) (writeText (k .before .before .before .args .policy) (k .before .before .before .args .d) (textAt (k .before .before .before .args .b .now) (k .before .before .before .args .text))) ready
+is : (k : tie.After-convert-text) → readyOf (k .before .before .before .args .b .now) (k .before .before .before .args .text) (k .convert-text .result) ≡ run stopped (k .before .before .before .args .entry) (writeText (k .before .before .before .args .converter .policy) (k .before .before .before .args .converter .d) (textAt (k .before .before .before .args .b .now) (k .before .before .before .args .text))) ready
 is k =
     let a = k .before .before .before .args in
-    ready-past (a .policy) (a .d) (textAt (a .b .now) (a .text)) (a .entry) _ (k .before .before .before .pre .1 .0) (k .convert-text .ensures)
+    ready-past (a .converter .policy) (a .converter .d) (textAt (a .b .now) (a .text)) (a .entry) _ (k .before .before .before .pre .1 .0) (k .convert-text .ensures)
 
 convert-text-requires : tie.Need-convert-text-requires
 convert-text-requires c κs = search needs
@@ -38,15 +38,15 @@ put-records-at-requires c κs =
     let g = c .before .before .strans .given in
     let r = c .before .before .before .before .convert-text .result in
     let i = is (c .before .before .before .before) in
-    let l = ready-length (a .b .now) (a .text) (s .pre .0 .string-in) (a .policy) (a .d) (a .entry) r i (g .0 .0) (g .0 .1 .0) (g .0 .1 .1 .0) (g .0 .1 .1 .1 .0) (g .1) in
-    let m = ready-short (a .b .now) (a .text) (s .pre .0 .string-in) (a .policy) (a .d) (a .entry) r i (g .0 .0) (g .0 .1 .0) (g .0 .1 .1 .0) (g .0 .1 .1 .1 .0) (g .1) in
+    let l = ready-length (a .b .now) (a .text) (s .pre .0 .string-in) (a .converter .policy) (a .converter .d) (a .entry) r i (g .0 .0) (g .0 .1 .0) (g .0 .1 .1 .0) (g .0 .1 .1 .1 .0) (g .1) in
+    let m = ready-short (a .b .now) (a .text) (s .pre .0 .string-in) (a .converter .policy) (a .converter .d) (a .entry) r i (g .0 .0) (g .0 .1 .0) (g .0 .1 .1 .0) (g .0 .1 .1 .1 .0) (g .1) in
     (s .pre .0 .string-in, (m, subst (λ (n : ℕ). a .start + n ≤ length (a .out .now)) (sym l) (s .pre .1 .1 .1)))
 
 returns : tie.Need-returns
 returns c =
     let a = c .before .before .before .before .before .args in
     let g = c .enum-told .given in
-    never-stopped (a .entry) (writeText (a .policy) (a .d) (textAt (a .b .now) (a .text))) (g .0 .0) (c .before .before .before .before .before .pre .1 .0) (ap (readyOf (a .b .now) (a .text)) (sym (g .1)) ∙ is (c .before .before))
+    never-stopped (a .entry) (writeText (a .converter .policy) (a .converter .d) (textAt (a .b .now) (a .text))) (g .0 .0) (c .before .before .before .before .before .pre .1 .0) (ap (readyOf (a .b .now) (a .text)) (sym (g .1)) ∙ is (c .before .before))
 
 same-length : tie.Need-same-length
 same-length c = search needs

@@ -20,7 +20,7 @@ returns : tie.Need-returns
 unfolding textAt
 returns c =
     let a = c .before .before .before .args in
-    text-layer stopped (a .entry) ready (a .policy) (a .d) (textAt (a .b .now) (a .text)) (lt-leb (a .text .layer) maxLayer (c .if1 .taken))
+    text-layer stopped (a .entry) ready (a .converter .policy) (a .converter .d) (textAt (a .b .now) (a .text)) (lt-leb (a .text .layer) maxLayer (c .if1 .taken))
 
 string-length-requires : tie.Need-string-length-requires
 string-length-requires c κs = search needs
@@ -31,7 +31,7 @@ returns-2 c =
     let s = c .before .before .before .before .before in
     let a = s .args in
     let r = c .before .string-length in
-    text-string stopped (a .entry) ready (a .policy) (a .d) (textAt (a .b .now) (a .text)) (layer (c .before .before))
+    text-string stopped (a .entry) ready (a .converter .policy) (a .converter .d) (textAt (a .b .now) (a .text)) (layer (c .before .before))
     (ap (λ (n : ℕ). leb n maxStringLength) (string-long (a .b .now) (a .text) (s .pre .0 .string-in) ∙ sym (r .ensures)) ∙ lt-leb (r .result) maxStringLength (c .if2 .taken))
 
 convert-text-requires : tie.Need-convert-text-requires
@@ -44,7 +44,7 @@ returns-3 c =
     let a = s .args in
     let r = c .before .before .string-length in
     c .convert-text .ensures
-    ∙ text-checked stopped (a .entry) ready (a .policy) (a .d) (textAt (a .b .now) (a .text)) (layer (c .before .before .before))
+    ∙ text-checked stopped (a .entry) ready (a .converter .policy) (a .converter .d) (textAt (a .b .now) (a .text)) (layer (c .before .before .before))
     (ap (λ (n : ℕ). leb n maxStringLength) (string-long (a .b .now) (a .text) (s .pre .0 .string-in) ∙ sym (r .ensures)) ∙ le-leb (r .result) maxStringLength (c .before .if2 .left))
 
 pub text-values-spec : {M : Type 1} → statement M

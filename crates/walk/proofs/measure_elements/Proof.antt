@@ -30,10 +30,10 @@ record Inv (policy : GdsRoundingPolicy) (d : Float) (sheet : List ℕ) (n k size
   rest : totalsFrom 0 0 zero64 (writeBlocks policy d 0 (elementBlocks sheet)) ≡ left policy d sheet n k size entries greatest
 
 abbrev Inv-loop : tie.InvT-loop
-Inv-loop policy d sheet n k₀ length₀ entries₀ greatest₀ k length entries greatest = Inv policy d sheet n k length entries greatest
+Inv-loop converter sheet n k₀ length₀ entries₀ greatest₀ k length entries greatest = Inv (converter .policy) (converter .d) sheet n k length entries greatest
 
 abbrev μ-loop : tie.MeasureT-loop
-μ-loop policy d sheet n k₀ length₀ entries₀ greatest₀ k length entries greatest = n - k
+μ-loop converter sheet n k₀ length₀ entries₀ greatest₀ k length entries greatest = n - k
 
 u32-at-requires : tie.Need-u32-at-requires Inv-loop μ-loop
 u32-at-requires c κs = let p = pairs-count (c .before .args .sheet .now) (c .before .pre .1) in p .word
@@ -51,8 +51,8 @@ loop-holds c =
       to = omega arith;
       small = omega arith;
       few = omega arith;
-      rest = left-start (a .policy) (a .d) (a .sheet .now) (c .u32-at .result) e
-          ∙ ap (left (a .policy) (a .d) (a .sheet .now) (c .u32-at .result) 1 0 0) (sym zero-is);
+      rest = left-start (a .converter .policy) (a .converter .d) (a .sheet .now) (c .u32-at .result) e
+          ∙ ap (left (a .converter .policy) (a .converter .d) (a .sheet .now) (c .u32-at .result) 1 0 0) (sym zero-is);
     }
 
 block-requires : tie.Need-block-requires Inv-loop μ-loop
@@ -97,7 +97,7 @@ returns c =
     let v = l .inv in
     let r = at-measure-element .measure-element in
     let g = c .before .refusal .given in
-    (sym (v .rest ∙ left-stop (s .args .policy) (s .args .d) (s .args .sheet .now) (at-u32-at .u32-at .result) (l .k) (l .length) (l .entries) (l .greatest) (at-block .block .result .now) (r .result) (v .from) (at-loop-test .loop-test .taken) (at-block .block .ensures) (r .ensures .0) (g .0 .0) (g .1)), tt)
+    (sym (v .rest ∙ left-stop (s .args .converter .policy) (s .args .converter .d) (s .args .sheet .now) (at-u32-at .u32-at .result) (l .k) (l .length) (l .entries) (l .greatest) (at-block .block .result .now) (r .result) (v .from) (at-loop-test .loop-test .taken) (at-block .block .ensures) (r .ensures .0) (g .0 .0) (g .1)), tt)
 
 enum-known-m : tie.Need-enum-known-m Inv-loop μ-loop
 enum-known-m c = search needs
@@ -164,8 +164,8 @@ loop-again c =
       small = omega arith;
       few = omega arith;
       rest = v .rest
-          ∙ left-turn (s .args .policy) (s .args .d) (s .args .sheet .now) n (l .k) (l .length) (l .entries) (l .greatest) (at-block .block .result .now) (r .result) (v .from) t (at-block .block .ensures) (r .ensures .0) (g .0 .0) (g .0 .1 .0) (g .1)
-          ∙ ap₂ (λ (x : ℕ) (y : Float). left (s .args .policy) (s .args .d) (s .args .sheet .now) n (l .k + 1) (l .length + g .0 .0) (l .entries + x) y) (sym f) (sym (c .greater-error .ensures));
+          ∙ left-turn (s .args .converter .policy) (s .args .converter .d) (s .args .sheet .now) n (l .k) (l .length) (l .entries) (l .greatest) (at-block .block .result .now) (r .result) (v .from) t (at-block .block .ensures) (r .ensures .0) (g .0 .0) (g .0 .1 .0) (g .1)
+          ∙ ap₂ (λ (x : ℕ) (y : Float). left (s .args .converter .policy) (s .args .converter .d) (s .args .sheet .now) n (l .k + 1) (l .length + g .0 .0) (l .entries + x) y) (sym f) (sym (c .greater-error .ensures));
     }
 
 returns-2 : tie.Need-returns-2 Inv-loop μ-loop
@@ -178,7 +178,7 @@ returns-2 c =
     let t = c .loop-test .left in
     let small = v .small in
     let few = v .few in
-    (sym (v .rest ∙ left-end (s .args .policy) (s .args .d) (s .args .sheet .now) (c .before .before .u32-at .result) (l .k) (l .length) (l .entries) (l .greatest) t), (omega arith, omega arith))
+    (sym (v .rest ∙ left-end (s .args .converter .policy) (s .args .converter .d) (s .args .sheet .now) (c .before .before .u32-at .result) (l .k) (l .length) (l .entries) (l .greatest) t), (omega arith, omega arith))
 
 pub measure-elements-spec : {M : Type 1} → statement M
 measure-elements-spec =

@@ -17,7 +17,7 @@ returns : tie.Need-returns
 returns c =
     let s = c .before .before .before .args in
     let t = c .before .pairs-fit in
-    (pairs-stop (s .policy) (s .d) (s .sheet .now) (t .result) (t .ensures) (c .if1 .taken), tt)
+    (pairs-stop (s .converter .policy) (s .converter .d) (s .sheet .now) (t .result) (t .ensures) (c .if1 .taken), tt)
 
 block-requires : tie.Need-block-requires
 block-requires c κs =
@@ -50,14 +50,14 @@ enum-known-refusal2 c = search needs
 enum-known-length : tie.Need-enum-known-length
 enum-known-length c = search needs
 
-add-t19 : tie.Need-add-t19
-add-t19 c =
+add-t18 : tie.Need-add-t18
+add-t18 c =
     let h = subst HeadSmall (c .before .before .before .before .before .front .given .1) (c .before .before .before .before .before .before .before .measure-head .ensures .1) in
     let e = subst TotalsSmall (c .before .length .given .1) (c .before .before .before .measure-elements .ensures .1) .0 in
     search needs
 
-add-t20 : tie.Need-add-t20
-add-t20 c =
+add-t19 : tie.Need-add-t19
+add-t19 c =
     let h = subst HeadSmall (c .before .before .before .before .before .front .given .1) (c .before .before .before .before .before .before .before .measure-head .ensures .1) in
     let e = subst TotalsSmall (c .before .length .given .1) (c .before .before .before .measure-elements .ensures .1) .0 in
     search needs
@@ -74,7 +74,7 @@ returns-2 c =
     let b = at-block .block in
     let h = at-measure-head .measure-head in
     let g = c .before .refusal .given in
-    (head-stop (s .policy) (s .d) (s .sheet .now) (t .result) (t .ensures) (at-if1 .if1 .left) (b .result .now) (b .ensures) (h .result) (h .ensures .0) (g .0 .0) (g .1), tt)
+    (head-stop (s .converter .policy) (s .converter .d) (s .sheet .now) (t .result) (t .ensures) (at-if1 .if1 .left) (b .result .now) (b .ensures) (h .result) (h .ensures .0) (g .0 .0) (g .1), tt)
 
 returns-3 : tie.Need-returns-3
 returns-3 c =
@@ -92,7 +92,7 @@ returns-3 c =
     let f = at-front .front .given in
     let a = at-measure-elements .measure-elements in
     let g = c .before .refusal2 .given in
-    (elements-stop (s .policy) (s .d) (s .sheet .now) (t .result) (t .ensures) (at-if1 .if1 .left) (b .result .now) (b .ensures) (h .result) (h .ensures .0) (f .0 .0) (f .1) (a .result) (a .ensures .0) (g .0 .0) (g .0 .1 .0) (g .1), tt)
+    (elements-stop (s .converter .policy) (s .converter .d) (s .sheet .now) (t .result) (t .ensures) (at-if1 .if1 .left) (b .result .now) (b .ensures) (h .result) (h .ensures .0) (f .0 .0) (f .1) (a .result) (a .ensures .0) (g .0 .0) (g .0 .1 .0) (g .1), tt)
 
 returns-4 : tie.Need-returns-4
 returns-4 c =
@@ -113,7 +113,7 @@ returns-4 c =
     let i = subst HeadSmall (f .1) (h .ensures .1) in
     let e = subst TotalsSmall (g .1) (a .ensures .1) in
     let l = e .0 in
-    (sheet-through (s .policy) (s .d) (s .sheet .now) (t .result) (t .ensures) (at-if1 .if1 .left) (b .result .now) (b .ensures) (h .result) (h .ensures .0) (f .0 .0) (f .1) (a .result) (a .ensures .0) (g .0 .0) (g .0 .1 .0) (g .0 .1 .1 .0) (g .1), (omega arith, e .1))
+    (sheet-through (s .converter .policy) (s .converter .d) (s .sheet .now) (t .result) (t .ensures) (at-if1 .if1 .left) (b .result .now) (b .ensures) (h .result) (h .ensures .0) (f .0 .0) (f .1) (a .result) (a .ensures .0) (g .0 .0) (g .0 .1 .0) (g .0 .1 .1 .0) (g .1), (omega arith, e .1))
 
 pub measure-sheet-spec : {M : Type 1} → statement M
 measure-sheet-spec =
@@ -128,8 +128,8 @@ measure-sheet-spec =
     measure-elements-requires
     enum-known-refusal2
     enum-known-length
+    add-t18
     add-t19
-    add-t20
     returns-2
     returns-3
     returns-4)

@@ -8,10 +8,10 @@ use Rattle.walk.proofs.put_elements.Statement.{statement}
 use Rattle.walk.proofs.put_elements.Tie as tie
 
 abbrev Inv-loop : tie.InvT-loop
-Inv-loop policy d sheet lead out₀ report₀ n next₀ to₀ at₀ out report next to at = Turns policy d sheet lead out₀ report₀ n out report next to at
+Inv-loop converter sheet lead out₀ report₀ n next₀ to₀ at₀ out report next to at = Turns (converter .policy) (converter .d) sheet lead out₀ report₀ n out report next to at
 
 abbrev μ-loop : tie.MeasureT-loop
-μ-loop policy d sheet lead out₀ report₀ n next₀ to₀ at₀ out report next to at = n - next
+μ-loop converter sheet lead out₀ report₀ n next₀ to₀ at₀ out report next to at = n - next
 
 u32-at-requires : tie.Need-u32-at-requires Inv-loop μ-loop
 u32-at-requires c κs =
@@ -61,7 +61,7 @@ add-to c =
     let v = at-loop .loop .inv in
     let e = turn-end v (at-loop-test .loop-test .taken) (at-block .block .ensures) (at-put-element .put-element .ensures) in
     let o = out-same v in
-    let q = start .good .1 .1 .1 .1 .0 in
+    let q = start .good .1 .1 .1 .0 in
     omega arith
 
 put-entry-requires : tie.Need-put-entry-requires Inv-loop μ-loop

@@ -61,7 +61,7 @@ add-put-empty-at c =
     let s = earlier-2 in
     let h = earlier in
     let e = end-within (s .args .lead .now) (s .args .out .now) (s .args .report .now) (s .pre) (h .before .block .ensures) (h .head-of .ensures) (at-places .places .given .1) (at-put-head .put-head .ensures) (at-put-elements .put-elements .ensures) in
-    let q = s .good .1 .1 .1 .1 .0 in
+    let q = s .good .1 .1 .1 .0 in
     omega arith
 
 put-empty-at-requires : tie.Need-put-empty-at-requires

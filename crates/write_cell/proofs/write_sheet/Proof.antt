@@ -6,11 +6,11 @@ use Rattle.write_cell.proofs.write_sheet.Statement.{statement}
 use Rattle.write_cell.proofs.write_sheet.Tie as tie
 
 -- what was measured
-accepted : (c : tie.After-length) → Measured (c .before .before .before .before .before .before .args .rounding) (c .before .before .before .before .before .before .args .d) (c .before .before .before .before .before .before .args .sheet .now) (c .length .given .0 .0) (c .length .given .0 .1 .0) (c .length .given .0 .1 .1 .0)
+accepted : (c : tie.After-length) → Measured (c .before .before .before .before .before .before .args .converter .policy) (c .before .before .before .before .before .before .args .converter .d) (c .before .before .before .before .before .before .args .sheet .now) (c .length .given .0 .0) (c .length .given .0 .1 .0) (c .length .given .0 .1 .1 .0)
 accepted c =
     let m = c .before .before .measure-sheet in
     let a = c .before .before .before .before .before .before .args in
-    measured (a .rounding) (a .d) (a .sheet .now) (m .result) (m .ensures .0) (c .length .given .1)
+    measured (a .converter .policy) (a .converter .d) (a .sheet .now) (m .result) (m .ensures .0) (c .length .given .1)
 
 measure-sheet-requires : tie.Need-measure-sheet-requires
 measure-sheet-requires c κs = search needs

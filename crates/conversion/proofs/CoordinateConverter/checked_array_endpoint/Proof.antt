@@ -1,4 +1,4 @@
--- `conversion::checked_array_endpoint` meets its contract: the sum and the product fit 64 bits, so that they are those of the whole numbers. Assumes nothing.
+-- `CoordinateConverter::checked_array_endpoint` meets its contract: the sum and the product fit 64 bits, so that they are those of the whole numbers. Assumes nothing.
 use mathlib.Core.Path.{_≡_, sym, ap, ap₂, _∙_, subst}
 use mir.Val.{SFits, toZ, ofZ}
 use mir.Syntax.{w32, w64}
@@ -13,8 +13,8 @@ use Rattle.conversion.specs.Convert.{deviations}
 use Rattle.conversion.proofs.AnswerLaws.{endpoint-infinite, endpoint-refused, endpoint-made}
 use Rattle.conversion.proofs.SignedLaws.{wider, again, Product, product, product-fits, sum-fits}
 use borrow.Author.Needs.{needs}
-use Rattle.conversion.proofs.checked_array_endpoint.Statement.{statement}
-use Rattle.conversion.proofs.checked_array_endpoint.Tie as tie
+use Rattle.conversion.proofs.CoordinateConverter.checked_array_endpoint.Statement.{statement}
+use Rattle.conversion.proofs.CoordinateConverter.checked_array_endpoint.Tie as tie
 
 is-finite : (c : tie.Then1) → finite (c .before .before .args .p) ≡ true
 is-finite c = sym (c .before .is-finite .ensures) ∙ c .if1 .taken
@@ -74,22 +74,22 @@ returns c =
     let g = c .before .before .before .ranged in
     let k = c .before .before .before .before in
     let a = k .before .before .args in
-    λ at. endpoint-refused (a .d) at (a .origin) (a .spacing) (a .count) (a .p) (is-finite k) _ (value-is k) (g .result) (g .ensures) _ (c .before .refusal .given .1)
+    λ at. endpoint-refused (a .self .d) at (a .origin) (a .spacing) (a .count) (a .p) (is-finite k) _ (value-is k) (g .result) (g .ensures) _ (c .before .refusal .given .1)
 
 returns-2 : tie.Need-returns-2
 returns-2 c =
-    let g = c .before .before .before .before .ranged in
-    let k = c .before .before .before .before .before in
+    let g = c .before .before .before .before .before .ranged in
+    let k = c .before .before .before .before .before .before in
     let a = k .before .before .args in
-    let q = c .before .before .value .given .0 .0 in
+    let q = c .before .before .before .value .given .0 .0 in
     let f : SFits w32 q = search needs in
-    λ at. c .quantization .ensures at ∙ ap (λ (z : ℤ). made z (deviations (a .d) at (a .p) z)) (toZ-ofZ w32 q f)
-    ∙ endpoint-made (a .d) at (a .origin) (a .spacing) (a .count) (a .p) (is-finite k) _ (value-is k) (g .result) (g .ensures) q (c .before .before .value .given .1)
+    λ at. c .quantization .ensures at ∙ ap (λ (z : ℤ). made z (deviations (a .self .d) at (a .p) z)) (toZ-ofZ w32 q f)
+    ∙ endpoint-made (a .self .d) at (a .origin) (a .spacing) (a .count) (a .p) (is-finite k) _ (value-is k) (g .result) (g .ensures) q (c .before .before .before .value .given .1)
 
 returns-3 : tie.Need-returns-3
 returns-3 c =
     let a = c .before .before .args in
-    λ at. endpoint-infinite (a .d) at (a .origin) (a .spacing) (a .count) (a .p) (sym (c .before .is-finite .ensures) ∙ c .if1 .left)
+    λ at. endpoint-infinite (a .self .d) at (a .origin) (a .spacing) (a .count) (a .p) (sym (c .before .is-finite .ensures) ∙ c .if1 .left)
 
 pub checked-array-endpoint-spec : {M : Type 1} → statement M
 checked-array-endpoint-spec =

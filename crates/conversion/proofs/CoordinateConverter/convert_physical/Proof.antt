@@ -1,4 +1,4 @@
--- `conversion::convert_physical` meets its contract: the database value, and then its deviation. Assumes nothing.
+-- `CoordinateConverter::convert_physical` meets its contract: the database value, and then its deviation. Assumes nothing.
 use mathlib.Core.Path.{_≡_, refl, sym, ap, _∙_, subst}
 use mathlib.Core.Bool.{true}
 use lib.Dec.{T}
@@ -12,10 +12,10 @@ use Rattle.conversion.specs.Made.{made}
 use Rattle.conversion.specs.Convert.{deviations}
 use Rattle.conversion.proofs.AnswerLaws.{value-finite, value-infinite, physical-refused, physical-made}
 use borrow.Author.Needs.{needs}
-use Rattle.conversion.proofs.convert_physical.Statement.{statement}
-use Rattle.conversion.proofs.convert_physical.Tie as tie
+use Rattle.conversion.proofs.CoordinateConverter.convert_physical.Statement.{statement}
+use Rattle.conversion.proofs.CoordinateConverter.convert_physical.Tie as tie
 
-is-finite : (c : tie.Then1) → finite (div binary64 (c .before .before .args .p) (c .before .before .args .d)) ≡ true
+is-finite : (c : tie.Then1) → finite (div binary64 (c .before .before .before .args .p) (c .before .before .before .args .self .d)) ≡ true
 is-finite c = sym (c .before .is-finite .ensures) ∙ c .if1 .taken
 
 is-finite-requires : tie.Need-is-finite-requires
@@ -36,22 +36,22 @@ quantization-requires c κs = search needs
 returns : tie.Need-returns
 returns c =
     let g = c .before .before .before .grid-value in
-    let a = c .before .before .before .before .before .before .args in
-    λ at. physical-refused (a .policy) (a .d) (a .p) at (g .result) _ (c .before .refusal .given .1) (g .ensures ∙ value-finite (a .policy) (a .d) (a .p) (is-finite (c .before .before .before .before)))
+    let a = c .before .before .before .before .before .before .before .args in
+    λ at. physical-refused (a .self .policy) (a .self .d) (a .p) at (g .result) _ (c .before .refusal .given .1) (g .ensures ∙ value-finite (a .self .policy) (a .self .d) (a .p) (is-finite (c .before .before .before .before)))
 
 returns-2 : tie.Need-returns-2
 returns-2 c =
     let g = c .before .before .before .before .grid-value in
-    let a = c .before .before .before .before .before .before .before .args in
+    let a = c .before .before .before .before .before .before .before .before .args in
     let q = c .before .before .value .given .0 .0 in
     let f : SFits w32 q = search needs in
-    λ at. c .quantization .ensures at ∙ ap (λ (z : ℤ). made z (deviations (a .d) at (a .p) z)) (toZ-ofZ w32 q f)
-    ∙ physical-made (a .policy) (a .d) (a .p) at (g .result) q (c .before .before .value .given .1) (g .ensures ∙ value-finite (a .policy) (a .d) (a .p) (is-finite (c .before .before .before .before .before)))
+    λ at. c .quantization .ensures at ∙ ap (λ (z : ℤ). made z (deviations (a .self .d) at (a .p) z)) (toZ-ofZ w32 q f)
+    ∙ physical-made (a .self .policy) (a .self .d) (a .p) at (g .result) q (c .before .before .value .given .1) (g .ensures ∙ value-finite (a .self .policy) (a .self .d) (a .p) (is-finite (c .before .before .before .before .before)))
 
 returns-3 : tie.Need-returns-3
 returns-3 c =
-    let a = c .before .before .args in
-    λ at. physical-refused (a .policy) (a .d) (a .p) at _ _ refl (value-infinite (a .policy) (a .d) (a .p) (sym (c .before .is-finite .ensures) ∙ c .if1 .left))
+    let a = c .before .before .before .args in
+    λ at. physical-refused (a .self .policy) (a .self .d) (a .p) at _ _ refl (value-infinite (a .self .policy) (a .self .d) (a .p) (sym (c .before .is-finite .ensures) ∙ c .if1 .left))
 
 pub convert-physical-spec : {M : Type 1} → statement M
 convert-physical-spec =
