@@ -34,7 +34,7 @@ use Rattle.steps.proofs.StepLaws.{run-through}
 use Rattle.coordinate.specs.declared.Valued.{Valued}
 use Rattle.coordinate.specs.declared.Valued.the-variants as G
 use Rattle.coordinate.specs.declared.Pointed.the-variants as P
-use Rattle.coordinate.specs.code.Coordinate.{valued, ValueGrown, Values, pointed}
+use Rattle.coordinate.specs.code.Coordinate.{valued, ValueGrown, GivesValue, pointed}
 use Rattle.coordinate.proofs.ValueLaws.{value-stops, value-goes-on}
 use Rattle.array.specs.declared.Converted.the-variants as C
 use Rattle.array.specs.code.Corners.{converted, Converts, endOf, Ends}
@@ -71,14 +71,14 @@ module _ (b : List ℕ) (at : ℕ) (t : Bool) (h : t ≡ eqb (numberAt 1 b at) a
 
 -- ---- two values on the grid, whatever is made of them
 
-module _ {R B : Type 0} (stop : Refusal → R) (e : Entry) (m n : Made ℤ) (g : ℤ → ℤ → B) (k : B → Entry → R) (r : Valued) (h : Values e m r) where
+module _ {R B : Type 0} (stop : Refusal → R) (e : Entry) (m n : Made ℤ) (g : ℤ → ℤ → B) (k : B → Entry → R) (r : Valued) (h : GivesValue e m r) where
   abbrev second : ℤ → Made B
   second x = n >>= λ y. pure (g x y)
 
   pub x-stops : (x : Refusal) → r ≡ G.Refused x → stop x ≡ run stop e (m >>= second) k
   x-stops x i = value-stops stop e m second k r h x i
 
-  module _ (x : ℤ) (e1 : Entry) (i : r ≡ G.At x e1) (s : Valued) (j : Values e1 n s) where
+  module _ (x : ℤ) (e1 : Entry) (i : r ≡ G.At x e1) (s : Valued) (j : GivesValue e1 n s) where
     after-x : run stop e1 (second x) k ≡ run stop e (m >>= second) k
     after-x = value-goes-on stop e m second k r h x e1 i
 
@@ -89,11 +89,11 @@ module _ {R B : Type 0} (stop : Refusal → R) (e : Entry) (m n : Made ℤ) (g :
     both-values y e2 l = sym (run-pure stop e2 (g x y) k) ∙ value-goes-on stop e1 n (λ y. pure (g x y)) k s j y e2 l ∙ after-x
 
 -- at most one deviation more for each
-module _ (e : Entry) (m n : Made ℤ) (r : Valued) (h : Values e m r) (x : ℤ) (e1 : Entry) (i : r ≡ G.At x e1) where
+module _ (e : Entry) (m n : Made ℤ) (r : Valued) (h : GivesValue e m r) (x : ℤ) (e1 : Entry) (i : r ≡ G.At x e1) where
   pub one-more : e1 .count ≤ e .count + 1
   one-more = subst (ValueGrown (e .count)) i (h .grown)
 
-  pub two-more : (s : Valued) → Values e1 n s → (y : ℤ) (e2 : Entry) → s ≡ G.At y e2 → e2 .count ≤ e .count + 2
+  pub two-more : (s : Valued) → GivesValue e1 n s → (y : ℤ) (e2 : Entry) → s ≡ G.At y e2 → e2 .count ≤ e .count + 2
   two-more s j y e2 l =
       let a = one-more in
       let b : e2 .count ≤ e1 .count + 1 = subst (ValueGrown (e1 .count)) l (j .grown) in
@@ -101,7 +101,7 @@ module _ (e : Entry) (m n : Made ℤ) (r : Valued) (h : Values e m r) (x : ℤ) 
 
 -- ---- a point on the grid. z and w are what the machine reads back of x and y.
 
-module _ (policy : GdsRoundingPolicy) (d : Float) (f : ℕ) (p : Point Float) (e : Entry) (r : Valued) (h : Values e (convertPhysical policy d (spot f xAxis 0) (p .x)) r) where
+module _ (policy : GdsRoundingPolicy) (d : Float) (f : ℕ) (p : Point Float) (e : Entry) (r : Valued) (h : GivesValue e (convertPhysical policy d (spot f xAxis 0) (p .x)) r) where
   abbrev point-x : Made ℤ
   point-x = convertPhysical policy d (spot f xAxis 0) (p .x)
 
@@ -115,7 +115,7 @@ module _ (policy : GdsRoundingPolicy) (d : Float) (f : ℕ) (p : Point Float) (e
   unfolding writePhysical
   point-stops x i = record { is = x-stops C.Refused e point-x point-y point-of (converted p) r h x i; grown = tt }
 
-  module _ (x : ℤ) (e1 : Entry) (i : r ≡ G.At x e1) (s : Valued) (j : Values e1 (convertPhysical policy d (spot f yAxis 0) (p .y)) s) where
+  module _ (x : ℤ) (e1 : Entry) (i : r ≡ G.At x e1) (s : Valued) (j : GivesValue e1 (convertPhysical policy d (spot f yAxis 0) (p .y)) s) where
     pub point-stops-at-y : (y : Refusal) → s ≡ G.Refused y → Converts e p (writePhysical policy d f p) (C.Refused y)
     unfolding writePhysical
     point-stops-at-y y l = record { is = y-stops C.Refused e point-x point-y point-of (converted p) r h x e1 i s j y l; grown = tt }
@@ -147,7 +147,7 @@ module _ (d : Float) (at : Spot) (o a : ℤ) (n : ℕ) (p : Float) (e : Entry) w
   value-of (G.Refused x) = endpoint o a n
   value-of (G.At q e′) = q
 
-  pub endpoint-value : (r : Valued) → Values e (arrayEndpoint d at o a n p) r → (x : ℤ) (e1 : Entry) → r ≡ G.At x e1 → x ≡ endpoint o a n
+  pub endpoint-value : (r : Valued) → GivesValue e (arrayEndpoint d at o a n p) r → (x : ℤ) (e1 : Entry) → r ≡ G.At x e1 → x ≡ endpoint o a n
   endpoint-value r h x e1 g =
       ap value-of (sym g ∙ h .is)
       ∙ run-through G.Refused valued value-of (λ x. endpoint o a n) (λ q e′. q) (λ x. refl) (λ q e′. refl) e (arrayEndpoint d at o a n p)
@@ -158,7 +158,7 @@ pub same-endpoint : (d : Float) (at : Spot) (n : ℕ) (z o w a : ℤ) (p q : Flo
 same-endpoint d at n z o w a p q f g h = ap₂ (λ (z w : ℤ). arrayEndpoint d at z w n p) f g ∙ ap (arrayEndpoint d at o a n) h
 
 module _ (policy : GdsRoundingPolicy) (d : Float) (f : ℕ) (o a : Point ℤ) (n : ℕ) (po pa : Point Float) (e : Entry) (r : Valued)
-    (h : Values e (arrayEndpoint d (spot f xAxis 0) (o .x) (a .x) n (endpointPhysical (pa .x) n (po .x))) r) where
+    (h : GivesValue e (arrayEndpoint d (spot f xAxis 0) (o .x) (a .x) n (endpointPhysical (pa .x) n (po .x))) r) where
   abbrev end-x : Made ℤ
   end-x = arrayEndpoint d (spot f xAxis 0) (o .x) (a .x) n (endpointPhysical (pa .x) n (po .x))
 
@@ -169,7 +169,7 @@ module _ (policy : GdsRoundingPolicy) (d : Float) (f : ℕ) (o a : Point ℤ) (n
   unfolding writeEndpoint
   end-stops x i = record { is = x-stops P.Refused e end-x end-y (λ x y. tt) (λ t e′. pointed (endOf o a n) e′) r h x i; grown = tt }
 
-  module _ (x : ℤ) (e1 : Entry) (i : r ≡ G.At x e1) (s : Valued) (j : Values e1 (arrayEndpoint d (spot f yAxis 0) (o .y) (a .y) n (endpointPhysical (pa .y) n (po .y))) s) where
+  module _ (x : ℤ) (e1 : Entry) (i : r ≡ G.At x e1) (s : Valued) (j : GivesValue e1 (arrayEndpoint d (spot f yAxis 0) (o .y) (a .y) n (endpointPhysical (pa .y) n (po .y))) s) where
     pub end-stops-at-y : (y : Refusal) → s ≡ G.Refused y → Ends e (endOf o a n) (writeEndpoint policy d f o a n po pa) (P.Refused y)
     unfolding writeEndpoint
     end-stops-at-y y l = record { is = y-stops P.Refused e end-x end-y (λ x y. tt) (λ t e′. pointed (endOf o a n) e′) r h x e1 i s j y l; grown = tt }

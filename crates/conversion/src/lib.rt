@@ -18,7 +18,7 @@ ghost use Rattle.conversion.specs.Array as Array;
 ghost use Rattle.conversion.specs.Array.{endpointPhysical};
 ghost use Rattle.big_endian.specs.Buffer.{WroteAt};
 ghost use Rattle.conversion.specs.Entry.{takes, placeBytes, entryBytes};
-ghost use Rattle.conversion.specs.code.Fold.{blankEntry, noted};
+ghost use Rattle.conversion.specs.code.Fold.{blankEntry, noted, Spare};
 use binary64::Direction;
 use refusal::Refusal;
 use units::Unit;
@@ -390,7 +390,7 @@ pub struct Entry {
 impl Entry {
     // One more deviation; only a larger error replaces the representative.
     pub fn add(mut self, v: Deviation) -> Self
-        requires { ⌜ self .count < 4294967295 ⌝ }
+        requires { ⌜ Spare 1 self ⌝ }
         ensures { λ r. ⌜ r ≡ takes self v ⌝ }
     {
         self.count = self.count + 1;
@@ -425,7 +425,7 @@ impl Entry {
 
     // The first deviation, or one more.
     pub fn note(self, v: Deviation) -> Entry
-        requires { ⌜ self .count < 4294967295 ⌝ }
+        requires { ⌜ Spare 1 self ⌝ }
         ensures { λ r. ⌜ r ≡ noted self v ⌝ }
     {
         if self.count == 0 {

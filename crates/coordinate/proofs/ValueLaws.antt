@@ -32,7 +32,7 @@ use Rattle.coordinate.specs.declared.Valued.the-variants as G
 use Rattle.coordinate.specs.declared.Plain.the-variants as L
 use Rattle.coordinate.specs.declared.Pointed.{Pointed}
 use Rattle.coordinate.specs.declared.Pointed.the-variants as P
-use Rattle.coordinate.specs.code.Coordinate.{valued, ValueGrown, Values, pointed, Converts, both, plainOf}
+use Rattle.coordinate.specs.code.Coordinate.{valued, ValueGrown, GivesValue, pointed, GivesPoint, both, plainOf}
 
 -- ---- a conversion's answer. z and w are what the machine reads back of the value q.
 
@@ -40,16 +40,16 @@ module _ (e : Entry) (at : Spot) (c : Conversion) where
   abbrev answer : Conversion → Valued
   answer y = run G.Refused e (outcome at y) valued
 
-  pub value-refused : (x : Refusal) → c ≡ C.Refused x → Values e (outcome at c) (G.Refused x)
+  pub value-refused : (x : Refusal) → c ≡ C.Refused x → GivesValue e (outcome at c) (G.Refused x)
   unfolding run
   value-refused x g = record { is = ap answer (sym g); grown = tt }
 
-  pub value-exact : (q z : ℤ) → c ≡ C.Converted q → z ≡ q → Values e (outcome at c) (G.At z e)
+  pub value-exact : (q z : ℤ) → c ≡ C.Converted q → z ≡ q → GivesValue e (outcome at c) (G.At z e)
   unfolding run notedAll
   value-exact q z g i = record { is = ap (λ (y : ℤ). G.At y e) i ∙ ap answer (sym g); grown = omega arith }
 
   pub value-quantized : (q z w : ℤ) (p x : Float) (r : Entry) → c ≡ C.Quantized q p x → z ≡ q → w ≡ q
-      → r ≡ noted e (record { field = at .field; axis = at .axis; place = at .place; physical = p; database = w; error = x }) → Values e (outcome at c) (G.At z r)
+      → r ≡ noted e (record { field = at .field; axis = at .axis; place = at .place; physical = p; database = w; error = x }) → GivesValue e (outcome at c) (G.At z r)
   unfolding run notedAll
   value-quantized q z w p x r g i j h =
       record {
@@ -64,12 +64,12 @@ module _ (e : Entry) (at : Spot) (c : Conversion) where
       go a b h = omega arith
 
 -- the step in other words
-pub same-values : {e : Entry} {m n : Made ℤ} {r : Valued} → m ≡ n → Values e m r → Values e n r
-same-values {e} {m} {n} {r} g v = subst (λ (o : Made ℤ). Values e o r) g v
+pub same-values : {e : Entry} {m n : Made ℤ} {r : Valued} → m ≡ n → GivesValue e m r → GivesValue e n r
+same-values {e} {m} {n} {r} g v = subst (λ (o : Made ℤ). GivesValue e o r) g v
 
 -- ---- a value, then what is left
 
-module _ {R : Type 0} (stop : Refusal → R) {B : Type 0} (e : Entry) (m : Made ℤ) (f : ℤ → Made B) (k : B → Entry → R) (r : Valued) (h : Values e m r) where
+module _ {R : Type 0} (stop : Refusal → R) {B : Type 0} (e : Entry) (m : Made ℤ) (f : ℤ → Made B) (k : B → Entry → R) (r : Valued) (h : GivesValue e m r) where
   abbrev spread : Valued → R
   spread (G.Refused x) = stop x
   spread (G.At q e′) = run stop e′ (f q) k
@@ -85,24 +85,24 @@ module _ {R : Type 0} (stop : Refusal → R) {B : Type 0} (e : Entry) (m : Made 
 
 -- ---- a point: each way out. z and w are what the machine reads back of x and y.
 
-module _ (f k : ℕ) (cx cy : Conversion) (e : Entry) (r : Valued) (h : Values e (outcome (spot f xAxis k) cx) r) where
+module _ (f k : ℕ) (cx cy : Conversion) (e : Entry) (r : Valued) (h : GivesValue e (outcome (spot f xAxis k) cx) r) where
   abbrev after : ℤ → Made (Point ℤ)
   after x = outcome (spot f yAxis k) cy >>= λ y. pure (record { x = x; y = y })
 
-  pub point-stops : (x : Refusal) → r ≡ G.Refused x → Converts e (both f k cx cy) (P.Refused x)
+  pub point-stops : (x : Refusal) → r ≡ G.Refused x → GivesPoint e (both f k cx cy) (P.Refused x)
   unfolding both
   point-stops x g = record { is = value-stops P.Refused e (outcome (spot f xAxis k) cx) after pointed r h x g; grown = tt }
 
-  module _ (x z : ℤ) (e1 : Entry) (g : r ≡ G.At x e1) (i : z ≡ x) (s : Valued) (j : Values e1 (outcome (spot f yAxis k) cy) s) where
+  module _ (x z : ℤ) (e1 : Entry) (g : r ≡ G.At x e1) (i : z ≡ x) (s : Valued) (j : GivesValue e1 (outcome (spot f yAxis k) cy) s) where
     first : run P.Refused e1 (after x) pointed ≡ run P.Refused e (both f k cx cy) pointed
     unfolding both
     first = value-goes-on P.Refused e (outcome (spot f xAxis k) cx) after pointed r h x e1 g
 
-    pub point-stops-at-y : (y : Refusal) → s ≡ G.Refused y → Converts e (both f k cx cy) (P.Refused y)
+    pub point-stops-at-y : (y : Refusal) → s ≡ G.Refused y → GivesPoint e (both f k cx cy) (P.Refused y)
     point-stops-at-y y g2 =
         record { is = value-stops P.Refused e1 (outcome (spot f yAxis k) cy) (λ y. pure (record { x = x; y = y })) pointed s j y g2 ∙ first; grown = tt }
 
-    pub point-made : (y w : ℤ) (e2 : Entry) → s ≡ G.At y e2 → w ≡ y → Converts e (both f k cx cy) (P.At z w e2)
+    pub point-made : (y w : ℤ) (e2 : Entry) → s ≡ G.At y e2 → w ≡ y → GivesPoint e (both f k cx cy) (P.At z w e2)
     point-made y w e2 g2 i2 =
         record {
           is = ap₂ (λ (u v : ℤ). P.At u v e2) i i2
@@ -117,7 +117,7 @@ module _ (f k : ℕ) (cx cy : Conversion) (e : Entry) (r : Valued) (h : Values e
 
 -- ---- a point with no deviation that counts leaves the entry as it is
 
-plain-made : (f k : ℕ) (e : Entry) (cx cy : Conversion) (x y : ℤ) → L.At x y ≡ plainOf cx cy → Converts e (both f k cx cy) (P.At x y e)
+plain-made : (f k : ℕ) (e : Entry) (cx cy : Conversion) (x y : ℤ) → L.At x y ≡ plainOf cx cy → GivesPoint e (both f k cx cy) (P.At x y e)
 unfolding both _>>=_ run notedAll
 plain-made f k e (C.Converted a) (C.Converted b) x y g = record { is = cc; grown = omega arith }
 plain-made f k e (C.Converted a) (C.Refused r) x y g = let z : _≡_ {A = ℕ} 0 1 = cc in absurd (omega arith)
@@ -133,20 +133,20 @@ module _ (policy : GdsRoundingPolicy) (d : Float) (p : Point Unit) (cx cy : Conv
   unfolding both writePoint
   both-is = ap₂ (λ (m n : Made ℤ). m >>= λ x. n >>= λ y. pure (record { x = x; y = y })) (hx (spot f xAxis k)) (hy (spot f yAxis k))
 
-  pub point-recorded : (r : Pointed) → Converts e (both f k cx cy) r → Converts e (writePoint policy d f k p) r
-  point-recorded r c = subst (λ (m : Made (Point ℤ)). Converts e m r) both-is c
+  pub point-recorded : (r : Pointed) → GivesPoint e (both f k cx cy) r → GivesPoint e (writePoint policy d f k p) r
+  point-recorded r c = subst (λ (m : Made (Point ℤ)). GivesPoint e m r) both-is c
 
-  pub point-plain : (x y : ℤ) → L.At x y ≡ plainOf cx cy → Converts e (writePoint policy d f k p) (P.At x y e)
+  pub point-plain : (x y : ℤ) → L.At x y ≡ plainOf cx cy → GivesPoint e (writePoint policy d f k p) (P.At x y e)
   point-plain x y g = point-recorded (P.At x y e) (plain-made f k e cx cy x y g)
 
 -- the same as code has it between two calls: x1 and y1 are the bits of x and y
-pub point-read : {e : Entry} {m : Made (Point ℤ)} {r : Pointed} → Converts e m r → (x y : ℤ) (e1 : Entry) → r ≡ P.At x y e1 → SFits w32 x → SFits w32 y
-    → {x1 y1 : ℕ} {e2 : Entry} → x1 ≡ ofZ w32 x → y1 ≡ ofZ w32 y → e2 ≡ e1 → Converts e m (P.At (toZ w32 x1) (toZ w32 y1) e2)
+pub point-read : {e : Entry} {m : Made (Point ℤ)} {r : Pointed} → GivesPoint e m r → (x y : ℤ) (e1 : Entry) → r ≡ P.At x y e1 → SFits w32 x → SFits w32 y
+    → {x1 y1 : ℕ} {e2 : Entry} → x1 ≡ ofZ w32 x → y1 ≡ ofZ w32 y → e2 ≡ e1 → GivesPoint e m (P.At (toZ w32 x1) (toZ w32 y1) e2)
 point-read {e} {m} {r} c x y e1 g f h {x1} {y1} {e2} i j k =
     let a : toZ w32 x1 ≡ x = ap (toZ w32) i ∙ toZ-ofZ w32 x f in
     let b : toZ w32 y1 ≡ y = ap (toZ w32) j ∙ toZ-ofZ w32 y h in
     let q : r ≡ P.At (toZ w32 x1) (toZ w32 y1) e2 = cc in
-    subst (Converts e m) q c
+    subst (GivesPoint e m) q c
 
 -- ---- its bytes. z and w are what the machine reads back of x and y.
 

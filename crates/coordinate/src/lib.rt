@@ -5,12 +5,13 @@ ghost use Prim.Native.Nat.{_+_, _≤_, _<_};
 ghost use lib.ListN.{length};
 ghost use Rattle.big_endian.specs.Buffer.{WroteAt};
 ghost use Rattle.conversion.specs.code.Answer.{outcome};
+ghost use Rattle.conversion.specs.code.Fold.{Spare};
 ghost use Rattle.conversion.specs.Convert.{Spot, convertUnit};
 ghost use Rattle.conversion.specs.Points.{spot, writePoint};
 ghost use Rattle.stream.specs.Records.{longBytes, xyRecord};
 ghost use Rattle.records.specs.code.Bytes.{Recorded};
 ghost use Rattle.forms.specs.code.Place.{unitAt, pointAt, coordinateLength, pointLength};
-ghost use Rattle.coordinate.specs.code.Coordinate.{Values, Converts, both, plainOf};
+ghost use Rattle.coordinate.specs.code.Coordinate.{GivesValue, GivesPoint, both, plainOf};
 use conversion::Conversion;
 use conversion::CoordinateConverter;
 use conversion::Deviation;
@@ -40,8 +41,8 @@ pub enum Pointed {
 
 // A conversion's answer, in its place: the entry is touched only where a deviation counts.
 pub fn record_quantization(c: Conversion, field: u8, axis: u8, place: u16, entry: Entry) -> Valued
-    requires { ⌜ entry .count < 4294967295 ⌝ }
-    ensures { λ r. ⌜ Values entry (outcome (spot field axis place) c) r ⌝ }
+    requires { ⌜ Spare 1 entry ⌝ }
+    ensures { λ r. ⌜ GivesValue entry (outcome (spot field axis place) c) r ⌝ }
 {
     match c {
         Conversion::Refused { refusal } => Valued::Refused { refusal },
@@ -83,8 +84,8 @@ pub fn convert_coordinate(
     entry: Entry,
 ) -> Valued
     requires { ⌜ at + coordinateLength ≤ length (now b) ⌝ }
-    requires { ⌜ entry .count < 4294967295 ⌝ }
-    ensures { λ r. ⌜ Values entry (convertUnit (converter .policy) (converter .d) (spot field axis place) (unitAt (now (b .entry)) at)) r ⌝ }
+    requires { ⌜ Spare 1 entry ⌝ }
+    ensures { λ r. ⌜ GivesValue entry (convertUnit (converter .policy) (converter .d) (spot field axis place) (unitAt (now (b .entry)) at)) r ⌝ }
 {
     let c = convert_at(converter, b, at);
     record_quantization(c, field, axis, place, entry)
@@ -92,8 +93,8 @@ pub fn convert_coordinate(
 
 // Both coordinates of a point, in their places, x before y.
 pub fn record_point(cx: Conversion, cy: Conversion, field: u8, place: u16, entry: Entry) -> Pointed
-    requires { ⌜ entry .count < 4294967294 ⌝ }
-    ensures { λ r. ⌜ Converts entry (both field place cx cy) r ⌝ }
+    requires { ⌜ Spare 2 entry ⌝ }
+    ensures { λ r. ⌜ GivesPoint entry (both field place cx cy) r ⌝ }
 {
     match record_quantization(cx, field, conversion::X_AXIS, place, entry) {
         Valued::Refused { refusal } => Pointed::Refused { refusal },
@@ -132,8 +133,8 @@ pub fn convert_point(
     entry: Entry,
 ) -> Pointed
     requires { ⌜ at + pointLength ≤ length (now b) ⌝ }
-    requires { ⌜ entry .count < 4294967294 ⌝ }
-    ensures { λ r. ⌜ Converts entry (writePoint (converter .policy) (converter .d) field place (pointAt (now (b .entry)) at)) r ⌝ }
+    requires { ⌜ Spare 2 entry ⌝ }
+    ensures { λ r. ⌜ GivesPoint entry (writePoint (converter .policy) (converter .d) field place (pointAt (now (b .entry)) at)) r ⌝ }
 {
     let cx = convert_at(converter, b, at);
     let cy = convert_at(converter, b, at + forms::COORDINATE);

@@ -37,7 +37,7 @@ use Rattle.cell.specs.Write.{isSome, layerAndType, writePath}
 use Rattle.forms.specs.code.Place.{unitAt, coordinateAt}
 use Rattle.coordinate.specs.declared.Valued.{Valued}
 use Rattle.coordinate.specs.declared.Valued.the-variants as G
-use Rattle.coordinate.specs.code.Coordinate.{ValueGrown, Values}
+use Rattle.coordinate.specs.code.Coordinate.{ValueGrown, GivesValue}
 use Rattle.coordinate.proofs.ValueLaws.{value-stops, value-goes-on}
 use Rattle.path.specs.declared.Length.{Length}
 use Rattle.path.specs.declared.Length.the-variants as L
@@ -77,7 +77,7 @@ module _ (policy : GdsRoundingPolicy) (d : Float) (f : ℕ) (b : List ℕ) (at :
       missing : Of none (L.At false z e)
       missing = record { is = sym (run-pure stopped e none ready); fits = (refl, go (e .count)) }
 
-  module _ (t : Bool) (h : t ≡ eqb (numberAt 1 b at) absentKind) (g : t ≡ false) (s : Valued) (v : Values e (convertUnit policy d (spot f noAxis 0) (unitAt b at)) s) where
+  module _ (t : Bool) (h : t ≡ eqb (numberAt 1 b at) absentKind) (g : t ≡ false) (s : Valued) (v : GivesValue e (convertUnit policy d (spot f noAxis 0) (unitAt b at)) s) where
     there : (r : Length) → Of (some (unitAt b at)) r → Given r
     there r x = subst (λ (x : Option Units.Unit). Of x r) (sym (absent-is false (sym h ∙ g))) x
 

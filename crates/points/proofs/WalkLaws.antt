@@ -28,7 +28,7 @@ use Rattle.steps.proofs.StepLaws.{run-through, yields, succeeds, written, putti
 use Rattle.forms.specs.code.Place.{valuesFrom, pointAt, pointsFrom}
 use Rattle.coordinate.specs.declared.Pointed.{Pointed}
 use Rattle.coordinate.specs.declared.Pointed.the-variants as P
-use Rattle.coordinate.specs.code.Coordinate.{pointed, Converts}
+use Rattle.coordinate.specs.code.Coordinate.{pointed, GivesPoint}
 use Rattle.coordinate.proofs.ValueLaws.{same-point}
 
 -- a point by its bits, as code has it between two calls
@@ -87,7 +87,7 @@ module _ {R : Type 0} (stop : Refusal → R) where
       abbrev next : Point ℤ → Entry → R
       next q e′ = run stop e′ (writePoints policy d (i + 1) (pointsFrom (n - (i + 1)) s (at + 34))) (λ qs e″. k (q ∷ qs) e″)
 
-      met : i < n → (r : Pointed) → Converts e (writePoint policy d 0 i (pointAt s at)) r → run stop e (writePoints policy d i (pointsFrom (n - i) s at)) k ≡ spread next r
+      met : i < n → (r : Pointed) → GivesPoint e (writePoint policy d 0 i (pointAt s at)) r → run stop e (writePoints policy d i (pointsFrom (n - i) s at)) k ≡ spread next r
       met h r c =
           ap (λ (ps : List (Point Unit)). run stop e (writePoints policy d i ps) k) (points-next n i s at h)
           ∙ turn e i (pointAt s at) (pointsFrom (n - (i + 1)) s (at + 34)) k
@@ -98,11 +98,11 @@ module _ {R : Type 0} (stop : Refusal → R) where
           go : (i : ℕ) → suc i ≡ i + 1
           go i = omega arith
 
-      pub go-on : i < n → (r : Pointed) → Converts e (writePoint policy d 0 i (pointAt s at)) r → (x y : ℤ) (e2 : Entry) → r ≡ P.At x y e2
+      pub go-on : i < n → (r : Pointed) → GivesPoint e (writePoint policy d 0 i (pointAt s at)) r → (x y : ℤ) (e2 : Entry) → r ≡ P.At x y e2
           → run stop e (writePoints policy d i (pointsFrom (n - i) s at)) k ≡ run stop e2 (writePoints policy d (i + 1) (pointsFrom (n - (i + 1)) s (at + 34))) (λ qs e′. k (record { x = x; y = y } ∷ qs) e′)
       go-on h r c x y e2 g = met h r c ∙ ap (spread next) g
 
-      pub go-stop : i < n → (r : Pointed) → Converts e (writePoint policy d 0 i (pointAt s at)) r → (x : Refusal) → r ≡ P.Refused x → run stop e (writePoints policy d i (pointsFrom (n - i) s at)) k ≡ stop x
+      pub go-stop : i < n → (r : Pointed) → GivesPoint e (writePoint policy d 0 i (pointAt s at)) r → (x : Refusal) → r ≡ P.Refused x → run stop e (writePoints policy d i (pointsFrom (n - i) s at)) k ≡ stop x
       go-stop h r c x g = met h r c ∙ ap (spread next) g
 
       pub go-end : n ≤ i → run stop e (writePoints policy d i (pointsFrom (n - i) s at)) k ≡ k [] e
@@ -149,21 +149,21 @@ put-end at d e =
 pub record Turn (e : Entry) (m : Made (Point ℤ)) (to : ℕ) (out : List ℕ) (to′ : ℕ) (out′ : List ℕ) (e′ : Entry) : Type 0 where
   pub x : ℤ
   pub y : ℤ
-  pub converts : Converts e m (P.At x y e′)
+  pub converts : GivesPoint e m (P.At x y e′)
   pub wrote : WroteAt (longBytes x ++ longBytes y) out out′ to to′
 
-pub point-put : {e : Entry} {m : Made (Point ℤ)} {r : Pointed} → Converts e m r → (x y : ℤ) (e1 : Entry) → r ≡ P.At x y e1 → SFits w32 x → SFits w32 y
+pub point-put : {e : Entry} {m : Made (Point ℤ)} {r : Pointed} → GivesPoint e m r → (x y : ℤ) (e1 : Entry) → r ≡ P.At x y e1 → SFits w32 x → SFits w32 y
     → {to to1 to′ : ℕ} {out out1 out′ : List ℕ} {e′ : Entry} → WroteAt (longBytes (toZ w32 (ofZ w32 x)) ++ longBytes (toZ w32 (ofZ w32 y))) out out1 to to1
     → out′ ≡ out1 → to′ ≡ to1 → e′ ≡ e1 → Turn e m to out to′ out′ e′
 point-put {e} {m} {r} c x y e1 g f h {to} {to1} {to′} {out} {out1} {out′} {e′} w i j k =
     let q : r ≡ P.At x y e′ = cc in
     let bs = longBytes x ++ longBytes y in
     let v : WroteAt bs out out1 to to1 = same-point (toZ-ofZ w32 x f) (toZ-ofZ w32 y h) w in
-    record { x = x; y = y; converts = subst (Converts e m) q c; wrote = subst (λ (o : List ℕ). WroteAt bs out o to to′) (sym i) (subst (λ (t : ℕ). WroteAt bs out out1 to t) (sym j) v) }
+    record { x = x; y = y; converts = subst (GivesPoint e m) q c; wrote = subst (λ (o : List ℕ). WroteAt bs out o to to′) (sym i) (subst (λ (t : ℕ). WroteAt bs out out1 to t) (sym j) v) }
 
 -- ---- points that succeed: no point is refused
 
-pub never-pointed : {X : Type 0} {e : Entry} {m : Made (Point ℤ)} {r : Pointed} {x : Refusal} → Succeeds m → Converts e m r → r ≡ P.Refused x → X
+pub never-pointed : {X : Type 0} {e : Entry} {m : Made (Point ℤ)} {r : Pointed} {x : Refusal} → Succeeds m → GivesPoint e m r → r ≡ P.Refused x → X
 unfolding run
 never-pointed {e = e} s c g =
     let h = sym g ∙ c .is ∙ ap (λ (n : Made (Point ℤ)). run P.Refused e n pointed) (s .makes) in

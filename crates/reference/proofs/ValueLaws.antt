@@ -36,7 +36,7 @@ use Rattle.steps.proofs.StepLaws.{run-through}
 use Rattle.steps.proofs.ReadyLaws.{never-stopped}
 use Rattle.coordinate.specs.declared.Pointed.{Pointed}
 use Rattle.coordinate.specs.declared.Pointed.the-variants as P
-use Rattle.coordinate.specs.code.Coordinate.{pointed, Converts}
+use Rattle.coordinate.specs.code.Coordinate.{pointed, GivesPoint}
 use Rattle.array.specs.declared.Array.{Array}
 use Rattle.array.specs.declared.Array.the-variants as A
 use Rattle.array.specs.declared.Corners.{Corners}
@@ -107,7 +107,7 @@ module _ (policy : GdsRoundingPolicy) (d : Float) (b : List ℕ) (s : ReferenceP
   point-ready (P.Refused x) = stopped x
   point-ready (P.At x y e′) = ready (srefOf b s t x y) e′
 
-  module _ (h : isSingle s ≡ true) (r : Pointed) (c : Converts e (writePoint policy d originField 0 (pointAt b (s .origin))) r) where
+  module _ (h : isSingle s ≡ true) (r : Pointed) (c : GivesPoint e (writePoint policy d originField 0 (pointAt b (s .origin))) r) where
     single-met : point-ready r ≡ run stopped e step ready
     single-met =
         ap point-ready (c .is) ∙ run-through P.Refused pointed point-ready stopped sref-at (λ x. refl) (λ o e′. refl) e origin ∙ single-run ∙ chosen true h

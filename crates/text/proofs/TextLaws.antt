@@ -36,7 +36,7 @@ use Rattle.forms.specs.code.Forms.{textAt}
 use Rattle.forms.proofs.StringLaws.{length-string}
 use Rattle.coordinate.specs.declared.Pointed.{Pointed}
 use Rattle.coordinate.specs.declared.Pointed.the-variants as P
-use Rattle.coordinate.specs.code.Coordinate.{pointed, Converts}
+use Rattle.coordinate.specs.code.Coordinate.{pointed, GivesPoint}
 use Rattle.transform.specs.declared.Strans.{Strans}
 use Rattle.transform.specs.code.Strans.{saidOf, stransBytes, stransLength}
 use Rattle.transform.proofs.StransLaws.{then-strans, length-strans, length-strans-of, transform-length}
@@ -87,7 +87,7 @@ module _ {Z : Type 0} (stop : Refusal → Z) (e : Entry) (k : SaidText → Entry
   text-transform x i = converted (refused x) i
 
   module _ (u : Option D.Strans) (i : pure u ≡ writeTransform (t .degrees) (t .magnification) (t .reflection))
-      (r : Pointed) (j : Converts e (writePoint policy d originField 0 (t .origin)) r) where
+      (r : Pointed) (j : GivesPoint e (writePoint policy d originField 0 (t .origin)) r) where
     abbrev spread : Pointed → Z
     spread (P.Refused x) = stop x
     spread (P.At x y e′) = k (said t u (record { x = x; y = y })) e′

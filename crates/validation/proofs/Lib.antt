@@ -1,3 +1,4 @@
--- Laws that this crate's proofs cite.
+-- Laws that this crate's proofs and other crates' cite.
+pub mod CheckLaws
 pub mod NameLaws
 pub mod StampLaws

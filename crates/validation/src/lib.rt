@@ -1,19 +1,27 @@
-// The caller's first checks; names and stamps (write/validation.rs, timestamp.rs).
+// The caller's first checks; points, layer and type; names and stamps (write/validation.rs, timestamp.rs).
 use conversion::CallerPolicy;
 use conversion::GdsRoundingPolicy;
 use refusal::Refusal;
 ghost use mathlib.Core.Path.{_≡_};
 ghost use Prim.Native.Nat.{_+_, _*_, _≤_};
+ghost use lib.Dec.{leb};
 ghost use lib.ListN.{length};
 ghost use Rattle.cell.specs.Call.{checkedCall};
 ghost use Rattle.cell.specs.Limits as Limits;
+ghost use Rattle.cell.specs.Limits.{maxLayer, maxDataType};
 ghost use Rattle.cell.specs.Names as Names;
 ghost use Rattle.cell.specs.Stamps as Stamps;
 ghost use Rattle.forms.specs.code.Place.{wordsFrom};
 ghost use Rattle.validation.specs.code.Call.{callOf};
+ghost use Rattle.validation.specs.code.Check.{checkOf, shapeChecks};
 
 // The longest sheet.
 const MAX_SHEET_LENGTH: usize = 16777216;
+
+// "Layer and type at most 255" (document 01).
+const MAX_LAYER: u16 = 255;
+
+const MAX_DATA_TYPE: u16 = 255;
 
 // The longest structure name.
 const MAX_NAME_LENGTH: usize = 32;
@@ -59,6 +67,48 @@ pub fn within(lo: usize, n: usize, hi: usize) -> bool
         return false;
     }
     n <= hi
+}
+
+// ---- before the points
+
+// The first check that fails, if one does.
+pub enum Check {
+    Refused { refusal: Refusal },
+    Passed,
+}
+
+pub fn validate_layer(layer: u16) -> bool
+    ensures { λ r. ⌜ r ≡ leb layer maxLayer ⌝ }
+{
+    layer <= MAX_LAYER
+}
+
+pub fn validate_data_type(datatype: u16) -> bool
+    ensures { λ r. ⌜ r ≡ leb datatype maxDataType ⌝ }
+{
+    datatype <= MAX_DATA_TYPE
+}
+
+// The checks of a polygon, a path or a node before its points, in order: how many points there are, layer, type.
+pub fn check_shape(least: usize, count: usize, most: usize, layer: u16, datatype: u16) -> Check
+    ensures { λ r. ⌜ checkOf r ≡ shapeChecks least count most layer datatype ⌝ }
+{
+    if !within(least, count, most) {
+        return Check::Refused {
+            refusal: Refusal::PointCount,
+        };
+    }
+    if !validate_layer(layer) {
+        return Check::Refused {
+            refusal: Refusal::LayerOrType,
+        };
+    }
+    if !validate_data_type(datatype) {
+        return Check::Refused {
+            refusal: Refusal::LayerOrType,
+        };
+    }
+    Check::Passed
 }
 
 // ---- names

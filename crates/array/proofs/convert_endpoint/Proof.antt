@@ -9,7 +9,7 @@ use Rattle.conversion.specs.Field.{xAxis, yAxis}
 use Rattle.conversion.specs.Points.{spot}
 use Rattle.conversion.specs.Array.{endpointPhysical}
 use Rattle.conversion.specs.Convert.{arrayEndpoint}
-use Rattle.coordinate.specs.code.Coordinate.{ValueGrown, Values}
+use Rattle.coordinate.specs.code.Coordinate.{ValueGrown, GivesValue}
 use Rattle.coordinate.proofs.ValueLaws.{same-values}
 use Rattle.array.specs.code.Corners.{physicalPart, databasePart}
 use Rattle.array.proofs.CoordinateLaws.{same-endpoint, end-stops, end-stops-at-y, end-made}
@@ -55,7 +55,7 @@ enum-known-y c = search needs
 
 -- the value of x is the definition's
 x-ends : (k : tie.After-record-quantization)
-    → Values (k .before .before .before .before .before .args .entry) (arrayEndpoint (k .before .before .before .before .before .args .converter .d) (spot (k .before .before .before .before .before .args .field) xAxis 0) (databasePart (k .before .before .before .before .before .args .origin) .x) (databasePart (k .before .before .before .before .before .args .step) .x) (k .before .before .before .before .before .args .n) (endpointPhysical (physicalPart (k .before .before .before .before .before .args .step) .x) (k .before .before .before .before .before .args .n) (physicalPart (k .before .before .before .before .before .args .origin) .x))) (k .record-quantization .result)
+    → GivesValue (k .before .before .before .before .before .args .entry) (arrayEndpoint (k .before .before .before .before .before .args .converter .d) (spot (k .before .before .before .before .before .args .field) xAxis 0) (databasePart (k .before .before .before .before .before .args .origin) .x) (databasePart (k .before .before .before .before .before .args .step) .x) (k .before .before .before .before .before .args .n) (endpointPhysical (physicalPart (k .before .before .before .before .before .args .step) .x) (k .before .before .before .before .before .args .n) (physicalPart (k .before .before .before .before .before .args .origin) .x))) (k .record-quantization .result)
 x-ends k =
     let a = k .before .before .before .before .before .args in
     let go = k .before .before .before .before .before .good .1 .0 in
@@ -66,7 +66,7 @@ x-ends k =
 
 -- the value of y is the definition's
 y-ends : (k : tie.After-record-quantization2)
-    → Values (k .before .before .before .before .before .before .x .given .0 .1 .0) (arrayEndpoint (k .before .before .before .before .before .before .before .before .before .before .before .before .before .args .converter .d) (spot (k .before .before .before .before .before .before .before .before .before .before .before .before .before .args .field) yAxis 0) (databasePart (k .before .before .before .before .before .before .before .before .before .before .before .before .before .args .origin) .y) (databasePart (k .before .before .before .before .before .before .before .before .before .before .before .before .before .args .step) .y) (k .before .before .before .before .before .before .before .before .before .before .before .before .before .args .n) (endpointPhysical (physicalPart (k .before .before .before .before .before .before .before .before .before .before .before .before .before .args .step) .y) (k .before .before .before .before .before .before .before .before .before .before .before .before .before .args .n) (physicalPart (k .before .before .before .before .before .before .before .before .before .before .before .before .before .args .origin) .y))) (k .record-quantization2 .result)
+    → GivesValue (k .before .before .before .before .before .before .x .given .0 .1 .0) (arrayEndpoint (k .before .before .before .before .before .before .before .before .before .before .before .before .before .args .converter .d) (spot (k .before .before .before .before .before .before .before .before .before .before .before .before .before .args .field) yAxis 0) (databasePart (k .before .before .before .before .before .before .before .before .before .before .before .before .before .args .origin) .y) (databasePart (k .before .before .before .before .before .before .before .before .before .before .before .before .before .args .step) .y) (k .before .before .before .before .before .before .before .before .before .before .before .before .before .args .n) (endpointPhysical (physicalPart (k .before .before .before .before .before .before .before .before .before .before .before .before .before .args .step) .y) (k .before .before .before .before .before .before .before .before .before .before .before .before .before .args .n) (physicalPart (k .before .before .before .before .before .before .before .before .before .before .before .before .before .args .origin) .y))) (k .record-quantization2 .result)
 y-ends k =
     let a = k .before .before .before .before .before .before .before .before .before .before .before .before .before .args in
     let go = k .before .before .before .before .before .before .before .before .before .before .before .before .before .good .1 .0 in

@@ -9,7 +9,7 @@ use Rattle.conversion.specs.code.Answer.{pointOf}
 use Rattle.conversion.specs.Convert.{convertPhysical}
 use Rattle.conversion.specs.Field.{xAxis, yAxis}
 use Rattle.conversion.specs.Points.{spot}
-use Rattle.coordinate.specs.code.Coordinate.{ValueGrown, Values}
+use Rattle.coordinate.specs.code.Coordinate.{ValueGrown, GivesValue}
 use Rattle.coordinate.proofs.ValueLaws.{same-values}
 use Rattle.array.proofs.CoordinateLaws.{point-stops, point-stops-at-y, point-made}
 use borrow.Author.Needs.{needs}
@@ -46,10 +46,10 @@ enum-known-y : tie.Need-enum-known-y
 enum-known-y c = search needs
 
 -- the values of x and y are the definition's
-x-ends : (k : tie.After-record-quantization) → Values (k .before .before .args .entry) (convertPhysical (k .before .before .args .converter .policy) (k .before .before .args .converter .d) (spot (k .before .before .args .field) xAxis 0) (pointOf (k .before .before .args .p) .x)) (k .record-quantization .result)
+x-ends : (k : tie.After-record-quantization) → GivesValue (k .before .before .args .entry) (convertPhysical (k .before .before .args .converter .policy) (k .before .before .args .converter .d) (spot (k .before .before .args .field) xAxis 0) (pointOf (k .before .before .args .p) .x)) (k .record-quantization .result)
 x-ends k = same-values (k .before .convert-physical .ensures (spot (k .before .before .args .field) xAxis 0)) (k .record-quantization .ensures)
 
-y-ends : (k : tie.After-record-quantization2) → Values (k .before .before .before .x .given .0 .1 .0) (convertPhysical (k .before .before .before .before .before .before .before .args .converter .policy) (k .before .before .before .before .before .before .before .args .converter .d) (spot (k .before .before .before .before .before .before .before .args .field) yAxis 0) (pointOf (k .before .before .before .before .before .before .before .args .p) .y)) (k .record-quantization2 .result)
+y-ends : (k : tie.After-record-quantization2) → GivesValue (k .before .before .before .x .given .0 .1 .0) (convertPhysical (k .before .before .before .before .before .before .before .args .converter .policy) (k .before .before .before .before .before .before .before .args .converter .d) (spot (k .before .before .before .before .before .before .before .args .field) yAxis 0) (pointOf (k .before .before .before .before .before .before .before .args .p) .y)) (k .record-quantization2 .result)
 y-ends k = same-values (k .before .convert-physical2 .ensures (spot (k .before .before .before .before .before .before .before .args .field) yAxis 0)) (k .record-quantization2 .ensures)
 
 returns : tie.Need-returns

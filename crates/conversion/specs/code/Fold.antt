@@ -1,7 +1,7 @@
 -- A report entry while its element is written, and steps run against it: an element has its entry from the start, with no deviation yet. Assumes nothing.
 use mathlib.Core.Bool.{cond}
 use mathlib.Core.List.{List, [], _∷_}
-use Prim.Native.Nat.{ℕ}
+use Prim.Native.Nat.{ℕ, _+_, _≤_}
 use lib.Dec.{eqb}
 use lib.IntN.{pos}
 use lib.Ieee.{binary64, ofBits}
@@ -14,6 +14,14 @@ use Rattle.conversion.specs.Made.{Made, refused, made}
 -- no deviation yet: a count of 0
 abbrev pub blankEntry : ℕ → ℕ → Entry
 blankEntry i k = record { index = i; kind = k; field = 0; axis = 0; place = 0; count = 0; physical = ofBits binary64 0; database = pos 0; error = ofBits binary64 0 }
+
+-- the greatest count: 32 bits hold no more
+abbrev pub maxCount : ℕ
+maxCount = 4294967295
+
+-- n deviations more can be counted. An element never comes near the greatest count, and this is what its steps hand on to say so.
+abbrev pub Spare : ℕ → Entry → Type 0
+Spare n e = e .count + n ≤ maxCount
 
 -- the first deviation, or one more
 unfoldable pub noted : Entry → Deviation → Entry

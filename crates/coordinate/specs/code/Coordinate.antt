@@ -32,7 +32,7 @@ ValueGrown n (G.Refused r) = T true
 ValueGrown n (G.At q e) = e .count ≤ n + 1
 
 -- the answer is the step's
-pub record Values (e : Entry) (m : Made ℤ) (r : Valued) : Type 0 where
+pub record GivesValue (e : Entry) (m : Made ℤ) (r : Valued) : Type 0 where
   pub is : r ≡ run G.Refused e m valued
   pub grown : ValueGrown (e .count) r
 
@@ -46,7 +46,7 @@ abbrev pub PointGrown : ℕ → Pointed → Type 0
 PointGrown n (P.Refused r) = T true
 PointGrown n (P.At x y e) = e .count ≤ n + 2
 
-pub record Converts (e : Entry) (m : Made (Point ℤ)) (r : Pointed) : Type 0 where
+pub record GivesPoint (e : Entry) (m : Made (Point ℤ)) (r : Pointed) : Type 0 where
   pub is : r ≡ run P.Refused e m pointed
   pub grown : PointGrown (e .count) r
 

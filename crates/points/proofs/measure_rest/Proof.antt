@@ -16,7 +16,7 @@ use Rattle.conversion.specs.code.Fold.{run}
 use Rattle.conversion.specs.Points.{writePoint, writePoints}
 use Rattle.forms.specs.code.Place.{pointAt, pointsFrom}
 use Rattle.coordinate.specs.declared.Pointed.the-variants as P
-use Rattle.coordinate.specs.code.Coordinate.{Converts}
+use Rattle.coordinate.specs.code.Coordinate.{GivesPoint}
 use Rattle.coordinate.proofs.ValueLaws.{point-recorded, point-plain, point-read}
 use Rattle.points.specs.declared.Walked.{Walked}
 use Rattle.points.specs.declared.Walked.the-variants as W
@@ -98,7 +98,7 @@ enum-known-x-2 : tie.Need-enum-known-x-2 Inv-loop μ-loop
 enum-known-x-2 c = search needs
 
 -- where the ways through the loop's body meet: the point by its values, with the entry after it
-met : (c : tie.At-match-came Inv-loop μ-loop) → Converts (c .before .before .before .before .before .loop .e) (writePoint (c .before .before .before .before .before .before .before .args .converter .policy) (c .before .before .before .before .before .before .before .args .converter .d) 0 (c .before .before .before .before .before .loop .i) (pointAt (c .before .before .before .before .before .before .before .args .b .now) (c .before .before .before .before .before .loop .at)))
+met : (c : tie.At-match-came Inv-loop μ-loop) → GivesPoint (c .before .before .before .before .before .loop .e) (writePoint (c .before .before .before .before .before .before .before .args .converter .policy) (c .before .before .before .before .before .before .before .args .converter .d) 0 (c .before .before .before .before .before .loop .i) (pointAt (c .before .before .before .before .before .before .before .args .b .now) (c .before .before .before .before .before .loop .at)))
     (P.At (toZ w32 (c .match .x1)) (toZ w32 (c .match .y1)) (c .match .e))
 unfolding pointAt
 met c =

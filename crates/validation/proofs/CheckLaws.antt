@@ -1,0 +1,60 @@
+-- The checks before the points: each way out, what they say of a shape that passes them, and what is left of a step after them. Assumes nothing.
+use mathlib.Core.Path.{_≡_, refl, sym, ap, _∙_, subst}
+use mathlib.Core.Bool.{Bool, true, false, _&&_}
+use Prim.Native.Nat.{ℕ, _≤_}
+use native.Mathlib.Omega.{arith}
+use lib.Dec.{T, leb}
+use borrow.Author.Tests.{leb-true}
+use Rattle.refusal.specs.declared.Refusal.{Refusal}
+use Rattle.refusal.specs.declared.Refusal.the-variants as R
+use Rattle.conversion.specs.Made.{Made, refused, pure, need, _>>=_, _>>_}
+use Rattle.conversion.proofs.MadeLaws.{need-on, need-off}
+use Rattle.cell.specs.Limits.{within, maxLayer, maxDataType}
+use Rattle.cell.specs.Write.{layerAndType}
+use Rattle.validation.specs.code.Check.{shapeChecks}
+
+module _ (least n most layer datatype : ℕ) where
+  pub count-stops : within least n most ≡ false → refused R.PointCount ≡ shapeChecks least n most layer datatype
+  unfolding shapeChecks
+  count-stops h = sym (need-off (within least n most) R.PointCount _ h)
+
+  module _ (h : within least n most ≡ true) where
+    counted : shapeChecks least n most layer datatype ≡ layerAndType layer datatype
+    unfolding shapeChecks
+    counted = need-on (within least n most) R.PointCount _ h
+
+    pub layer-stops : leb layer maxLayer ≡ false → refused R.LayerOrType ≡ shapeChecks least n most layer datatype
+    unfolding layerAndType
+    layer-stops a = sym (counted ∙ need-off (leb layer maxLayer) R.LayerOrType _ a)
+
+    module _ (a : leb layer maxLayer ≡ true) where
+      layered : shapeChecks least n most layer datatype ≡ need (leb datatype maxDataType) R.LayerOrType
+      unfolding layerAndType
+      layered = counted ∙ need-on (leb layer maxLayer) R.LayerOrType _ a
+
+      pub type-stops : leb datatype maxDataType ≡ false → refused R.LayerOrType ≡ shapeChecks least n most layer datatype
+      unfolding need
+      type-stops b = sym (layered ∙ ap (λ (t : Bool). need t R.LayerOrType) b)
+
+      pub all-pass : leb datatype maxDataType ≡ true → pure tt ≡ shapeChecks least n most layer datatype
+      unfolding need
+      all-pass b = sym (layered ∙ ap (λ (t : Bool). need t R.LayerOrType) b)
+
+  -- passed, the points are as many as they may be
+  pub passed-within : pure tt ≡ shapeChecks least n most layer datatype → (least ≤ n) × (n ≤ most)
+  unfolding shapeChecks need _>>_ _>>=_
+  passed-within h = go (leb least n) (leb n most) refl refl h
+    where
+      go : (s t : Bool) → leb least n ≡ s → leb n most ≡ t → pure tt ≡ (need (s && t) R.PointCount >> layerAndType layer datatype) → (least ≤ n) × (n ≤ most)
+      go true true a b e = (leb-true least n a, leb-true n most b)
+      go true false a b e = let z : _≡_ {A = ℕ} 0 1 = cc in absurd (omega arith)
+      go false t a b e = let z : _≡_ {A = ℕ} 0 1 = cc in absurd (omega arith)
+
+  -- the checks in front of a step, as they stand in the definitions and in one
+  pub regroup : {A : Type 0} (m : Made A) → need (within least n most) R.PointCount >> (layerAndType layer datatype >> m) ≡ shapeChecks least n most layer datatype >> m
+  unfolding shapeChecks need _>>_ _>>=_
+  regroup m = go (within least n most) (layerAndType layer datatype)
+    where
+      go : {B : Type 0} (t : Bool) (k : Made B) → need t R.PointCount >> (k >> m) ≡ (need t R.PointCount >> k) >> m
+      go true k = need-on true R.PointCount (k >> m) refl ∙ sym (ap (λ (x : Made _). x >> m) (need-on true R.PointCount k refl))
+      go false k = refl
