@@ -6,10 +6,10 @@ use Prim.Native.Nat.{ℕ, zero, suc, _-_, _*_, _/_, _%_, _^_}
 use lib.Dec.{eqb}
 use lib.Ieee.{ofBits, toBits, binary64}
 use Rattle.big_endian.specs.Big.{bytesOf}
-use Rattle.conversion.specs.Entry.{reportBytes}
+use Rattle.conversion.specs.Entry.{reportBytes, entryLength}
 use Rattle.stream.specs.Structure.{Structure}
 use Rattle.stream.specs.Read.{structureOf}
-use Rattle.cell.specs.Cell.{Result, stopped, written, structureBytes, entryLength, writeCell}
+use Rattle.cell.specs.Cell.{Result, stopped, written, structureBytes, writeCell}
 use Rattle.cell.specs.Answer.{Values, answerOf, valuesOf}
 
 -- as the program prints it: number and block; or length, entries, error bits, the stream and the entries

@@ -27,12 +27,13 @@ use Rattle.stream.specs.Drawn.{elementsDrawn, drawnOf}
 use Rattle.stream.proofs.Fit.{FitElement, FitStructure}
 use Rattle.stream.proofs.StringLaws.{trimmed-padded}
 use Rattle.stream.proofs.BackLaws.{structureOf-back, structure-bytewise}
+use Rattle.conversion.specs.Entry.{entryLength}
 use Rattle.cell.specs.declared.Answer.the-variants as A
 use Rattle.cell.specs.Stamps.{stampsFit}
 use Rattle.cell.specs.Names.{isName}
 use Rattle.cell.specs.Call.{checkedCall}
 use Rattle.cell.specs.Write.{writeElement}
-use Rattle.cell.specs.Cell.{Result, stopped, written, writeOne, writeBlock, writeBlocks, structureFor, structureWith, writeHeaded, writeSheet, afterCaller, cellStructure, structureBytes, entryLength, fitting, writeCell, outAfter}
+use Rattle.cell.specs.Cell.{Result, stopped, written, writeOne, writeBlock, writeBlocks, structureFor, structureWith, writeHeaded, writeSheet, afterCaller, cellStructure, structureBytes, fitting, writeCell, outAfter}
 use Rattle.cell.specs.Answer.{answerOf}
 use Rattle.cell.specs.Draws.{Each, AlikeElement, Alike, Draws}
 use Rattle.cell.specs.Draws as W

@@ -11,14 +11,14 @@ use Rattle.big_endian.specs.Big.{Bytes}
 use Rattle.parsing.specs.All.{All}
 use Rattle.binary64.specs.Value.{zero64}
 use Rattle.conversion.specs.declared.Entry.{Entry}
-use Rattle.conversion.specs.Entry.{greatestFrom}
+use Rattle.conversion.specs.Entry.{greatestFrom, entryLength}
 use Rattle.stream.specs.Structure.{Structure}
 use Rattle.stream.specs.Records.{structureRecords}
 use Rattle.stream.proofs.RecordLaws.{Length}
 use Rattle.stream.proofs.BytesLaws.{lengths}
 use Rattle.stream.proofs.BackLaws.{record-lengths, structure-length}
 use Rattle.cell.specs.declared.Answer.the-variants as A
-use Rattle.cell.specs.Cell.{Result, stopped, written, cellStructure, structureBytes, entryLength, fitting, writeCell}
+use Rattle.cell.specs.Cell.{Result, stopped, written, cellStructure, structureBytes, fitting, writeCell}
 use Rattle.cell.specs.Answer.{answerOf}
 use Rattle.cell.specs.Agree.{Agrees, WritingAgrees}
 use Rattle.cell.proofs.ResultLaws.{Whenever, check-on, check-off}

@@ -17,7 +17,7 @@ use Rattle.parsing.specs.All.{All, done, more}
 use Rattle.conversion.specs.declared.GdsRoundingPolicy.{GdsRoundingPolicy}
 use Rattle.conversion.specs.declared.Entry.{Entry}
 use Rattle.conversion.specs.Made.{Made, refused, made}
-use Rattle.conversion.specs.Entry.{entryOf}
+use Rattle.conversion.specs.Entry.{entryOf, entryLength}
 use Rattle.conversion.proofs.PolicyLaws.{caller-unnamed, caller-with, caller-unit}
 use Rattle.sheet.specs.Element.{Head, Element, kindOf, headOf, elementOf}
 use Rattle.sheet.specs.Blocks.{pairsFit, blockOf}
@@ -27,7 +27,7 @@ use Rattle.cell.specs.Stamps.{stampsFit}
 use Rattle.cell.specs.Names.{isName}
 use Rattle.cell.specs.Call.{checkedCall}
 use Rattle.cell.specs.Write.{writeElement}
-use Rattle.cell.specs.Cell.{Result, stopped, written, inFront, writeOne, writeBlock, writeBlocks, structureWith, writeHeaded, writeSheet, afterCaller, cellStructure, structureBytes, entryLength, fitting, writeCell}
+use Rattle.cell.specs.Cell.{Result, stopped, written, inFront, writeOne, writeBlock, writeBlocks, structureWith, writeHeaded, writeSheet, afterCaller, cellStructure, structureBytes, fitting, writeCell}
 use Rattle.cell.specs.Order.{Accepted, Called, Headed, Reached, First, Ordered}
 use Rattle.cell.specs.Order as O
 use Rattle.cell.proofs.ResultLaws.{Stops, check-stops, check-on, check-off}

@@ -6,9 +6,10 @@ use Prim.Native.Nat.{ℕ, _*_, _≤_, _<_}
 use lib.Ieee.{Float}
 use Rattle.refusal.specs.declared.Refusal.{Refusal}
 use Rattle.refusal.specs.declared.Refusal.the-variants as R
+use Rattle.conversion.specs.Entry.{entryLength}
 use Rattle.cell.specs.declared.Answer.{Answer}
 use Rattle.cell.specs.declared.Answer.the-variants as A
-use Rattle.cell.specs.Cell.{cellStructure, entryLength, writeCell}
+use Rattle.cell.specs.Cell.{cellStructure, writeCell}
 use Rattle.cell.specs.Answer.{answerOf}
 
 -- what writing answers where measuring answered a, given so much output and report

@@ -12,7 +12,7 @@ use Rattle.refusal.specs.declared.Refusal.{Refusal}
 use Rattle.refusal.specs.declared.Refusal.the-variants as R
 use Rattle.conversion.specs.declared.GdsRoundingPolicy.{GdsRoundingPolicy}
 use Rattle.conversion.specs.declared.Entry.{Entry}
-use Rattle.conversion.specs.Entry.{entryOf, reportBytes}
+use Rattle.conversion.specs.Entry.{entryOf, reportBytes, entryLength}
 use Rattle.conversion.specs.Made.{Made, refused, made}
 use Rattle.sheet.specs.Element.{Head, Element, kindOf, headOf, elementOf}
 use Rattle.sheet.specs.Blocks.{pairsFit, blockOf}
@@ -96,10 +96,6 @@ cellStructure policy d sheet = afterCaller (checkedCall policy d sheet) d sheet
 
 abbrev pub structureBytes : Structure → List ℕ
 structureBytes s = streamBytes (structureRecords s)
-
--- "a report entry .. is 33 bytes"
-abbrev pub entryLength : ℕ
-entryLength = 33
 
 -- into an output and a report of these lengths
 unfoldable pub fitting : ℕ → ℕ → Result Structure → Result Structure

@@ -20,11 +20,12 @@ use Rattle.sheet.specs.Element.{Head, Element, headOf, elementOf}
 use Rattle.sheet.specs.Blocks.{pairsFit, blockOf}
 use Rattle.sheet.specs.Cell.{elementBlocks}
 use Rattle.stream.specs.Structure.{Said, Structure}
+use Rattle.conversion.specs.Entry.{entryLength}
 use Rattle.cell.specs.Limits.{maxSheetLength}
 use Rattle.cell.specs.Stamps.{stampsFit}
 use Rattle.cell.specs.Names.{isName}
 use Rattle.cell.specs.Write.{writeElement}
-use Rattle.cell.specs.Cell.{stopped, written, cellStructure, structureBytes, entryLength, writeCell}
+use Rattle.cell.specs.Cell.{stopped, written, cellStructure, structureBytes, writeCell}
 
 -- a block that holds an element which none of its checks refuses
 pub record Accepted (policy : GdsRoundingPolicy) (d : Float) (b : List ℕ) : Type 0 where

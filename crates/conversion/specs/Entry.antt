@@ -78,6 +78,10 @@ entryBytes e =
     ++ bytesOf 4 (ofZ w32 (e .database))
     ++ bytesOf 8 (toBits binary64 (e .error))
 
+-- "33 bytes"
+abbrev pub entryLength : ℕ
+entryLength = 33
+
 -- the entries' bytes, one after the other, each after the same lead
 abbrev pub reportWith : List ℕ → List Entry → List ℕ
 reportWith lead [] = []

@@ -17,8 +17,8 @@ ghost use Rattle.conversion.specs.code.Answer.{callerOf, outcome, valueO
 ghost use Rattle.conversion.specs.Array as Array;
 ghost use Rattle.conversion.specs.Array.{endpointPhysical};
 ghost use Rattle.big_endian.specs.Buffer.{WroteAt};
-ghost use Rattle.conversion.specs.Entry.{takes, placeBytes, entryBytes};
-ghost use Rattle.conversion.specs.code.Fold.{blankEntry, noted, Spare};
+ghost use Rattle.conversion.specs.Entry.{takes, placeBytes, entryBytes, entryLength};
+ghost use Rattle.conversion.specs.code.Fold.{blankEntry, placeLength, noted, Spare};
 use binary64::Direction;
 use refusal::Refusal;
 use units::Unit;
@@ -52,6 +52,9 @@ pub const ROW_SPACING_FIELD: u8 = 6;
 pub const COLUMN_ENDPOINT_FIELD: u8 = 7;
 
 pub const ROW_ENDPOINT_FIELD: u8 = 8;
+
+// The bytes of an entry.
+pub const ENTRY_LENGTH: usize = 33;
 
 // Its axes.
 pub const X_AXIS: u8 = 0;
@@ -446,7 +449,7 @@ impl Entry {
 
     // Its 33 bytes at a place of the report; the place after them.
     pub fn put(self, out: &mut [u8], at: usize) -> usize
-        requires { ⌜ at + 33 ≤ length (now out) ⌝ }
+        requires { ⌜ at + entryLength ≤ length (now out) ⌝ }
         ensures { λ r. ⌜ WroteAt (entryBytes self) (now (out .entry)) (now (out .exit)) at r ⌝ }
     {
         let a = self.put_place(out, at);
@@ -457,7 +460,7 @@ impl Entry {
 
     // The first 13 of them: which element and field, and how many deviations.
     fn put_place(self, out: &mut [u8], at: usize) -> usize
-        requires { ⌜ at + 13 ≤ length (now out) ⌝ }
+        requires { ⌜ at + placeLength ≤ length (now out) ⌝ }
         ensures { λ r. ⌜ WroteAt (placeBytes self) (now (out .entry)) (now (out .exit)) at r ⌝ }
     {
         let a = big_endian::put_u32_at(out, at, self.index);

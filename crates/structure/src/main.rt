@@ -1,17 +1,17 @@
 // Reads a policy byte, d and a cell sheet; writes the cell's structure and its report in hexadecimal, or the refusal (document 01, "structure").
 use cell::Answer;
+use conversion::ENTRY_LENGTH;
 ghost use mathlib.Core.Path.{_≡_};
 ghost use Prim.Native.Nat.{_+_, _*_, _≤_};
 ghost use lib.ListN.{length};
 ghost use Rattle.big_endian.specs.Buffer.{WroteAt};
+ghost use Rattle.conversion.specs.Entry.{entryLength};
 ghost use Rattle.structure.specs.Hex.{glyph, hexOf};
 
 // The policy byte and the eight bytes of d come before the sheet, of which this many bytes are taken.
 const FRONT: usize = 9;
 
 const MAX_SHEET: usize = 24576;
-
-const ENTRY: usize = 33;
 
 // A digit of 0 to 15, in lower case.
 fn digit(n: u8) -> u8
@@ -49,11 +49,11 @@ fn print_bytes(bytes: &[u8])
 }
 
 fn print_entries(entries: &[u8], n: usize)
-    requires { ⌜ 33 * n ≤ length (now entries) ⌝ }
+    requires { ⌜ entryLength * n ≤ length (now entries) ⌝ }
 {
     let mut i: usize = 0;
     while i < n {
-        print_bytes(&entries[ENTRY * i..ENTRY * i + ENTRY]);
+        print_bytes(&entries[ENTRY_LENGTH * i..ENTRY_LENGTH * i + ENTRY_LENGTH]);
         i = i + 1;
     }
 }

@@ -1,5 +1,6 @@
 // Runs the cell writer on stored cases, with the answers that another implementation gave: prints the number of each case that differs, then how many cases there are and how many differ.
 use cell::Answer;
+use conversion::ENTRY_LENGTH;
 ghost use mathlib.Core.Path.{_≡_};
 ghost use Prim.Native.Nat.{_≤_};
 ghost use lib.ListN.{length};
@@ -25,8 +26,6 @@ const FRONT: usize = 9;
 const REFUSED: u8 = 0;
 
 const ACCEPTED: u8 = 1;
-
-const ENTRY: usize = 33;
 
 // How many cases there are, and how many of them differ.
 struct Tally {
@@ -74,7 +73,7 @@ fn put_answer(text: &mut [u8], policy: u8, d: f64, sheet: &[u8]) -> usize
         } => {
             let a = put_front(text, length, entries, greatest);
             let b = records::put_bytes_at(text, a, &out[..length]);
-            records::put_bytes_at(text, b, &report[..ENTRY * entries])
+            records::put_bytes_at(text, b, &report[..ENTRY_LENGTH * entries])
         }
     }
 }

@@ -14,12 +14,12 @@ use Rattle.big_endian.specs.Big.{Bytes}
 use Rattle.binary64.specs.Value.{zero64}
 use Rattle.conversion.specs.declared.GdsRoundingPolicy.{GdsRoundingPolicy}
 use Rattle.conversion.specs.declared.Entry.{Entry}
-use Rattle.conversion.specs.Entry.{reportBytes, greatestFrom}
+use Rattle.conversion.specs.Entry.{reportBytes, greatestFrom, entryLength}
 use Rattle.conversion.proofs.EntryLaws.{length-report}
 use Rattle.stream.specs.Structure.{Structure}
 use Rattle.cell.specs.declared.Answer.{Answer}
 use Rattle.cell.specs.declared.Answer.the-variants as A
-use Rattle.cell.specs.Cell.{Result, stopped, written, check, writeSheet, cellStructure, structureBytes, entryLength, fitting, writeCell, outAfter, reportAfter}
+use Rattle.cell.specs.Cell.{Result, stopped, written, check, writeSheet, cellStructure, structureBytes, fitting, writeCell, outAfter, reportAfter}
 use Rattle.cell.specs.Answer.{answerOf, valuesOf}
 use Rattle.cell.specs.Draws.{Draws}
 use Rattle.cell.proofs.ResultLaws.{check-on, check-off}

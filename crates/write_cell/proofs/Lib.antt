@@ -4,3 +4,4 @@ pub mod CellLaws
 pub mod RoomLaws
 pub mod EdgesLaws
 pub mod StayLaws
+pub mod PromiseLaws

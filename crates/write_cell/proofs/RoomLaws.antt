@@ -11,9 +11,10 @@ use borrow.Author.Tests.{leb-true}
 use Rattle.refusal.specs.declared.Refusal.the-variants as R
 use Rattle.conversion.specs.declared.Entry.{Entry}
 use Rattle.stream.specs.Structure.{Structure}
+use Rattle.conversion.specs.Entry.{entryLength}
 use Rattle.cell.specs.declared.Answer.{Answer}
 use Rattle.cell.specs.declared.Answer.the-variants as A
-use Rattle.cell.specs.Cell.{Result, stopped, written, check, structureBytes, entryLength, fitting, cellStructure, writeCell}
+use Rattle.cell.specs.Cell.{Result, stopped, written, check, structureBytes, fitting, cellStructure, writeCell}
 use Rattle.cell.specs.Answer.{answerOf, valuesOf}
 use Rattle.cell.proofs.AnswerLaws.{values-once}
 use Rattle.write_cell.specs.Writer.{WritesCell}

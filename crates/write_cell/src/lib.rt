@@ -10,9 +10,6 @@ ghost use Rattle.cell.specs.Answer.{valuesOf};
 ghost use Rattle.write_cell.specs.Writer.{MeasuresCell, WritesCell};
 ghost use Rattle.write_cell.specs.code.Sheet.{WritesSheet};
 
-// The bytes of a report entry.
-const ENTRY_LENGTH: usize = 33;
-
 // The first refusal other than 21 and 22, or what writing will give: structure length, entry count and greatest error.
 pub fn measure_cell(policy: u8, d: f64, sheet: &[u8]) -> Answer
     ensures { λ r. ⌜ MeasuresCell policy d (now (sheet .entry)) (valuesOf r) ⌝ }
@@ -46,7 +43,7 @@ fn write_sheet(
             entries,
             greatest,
         } => {
-            let size = ENTRY_LENGTH * entries;
+            let size = conversion::ENTRY_LENGTH * entries;
             if out.len() < length {
                 return Answer::Refused {
                     refusal: Refusal::OutputShort,

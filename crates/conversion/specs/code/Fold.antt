@@ -15,6 +15,10 @@ use Rattle.conversion.specs.Made.{Made, refused, made}
 abbrev pub blankEntry : ℕ → ℕ → Entry
 blankEntry i k = record { index = i; kind = k; field = 0; axis = 0; place = 0; count = 0; physical = ofBits binary64 0; database = pos 0; error = ofBits binary64 0 }
 
+-- the bytes of `placeBytes`
+abbrev pub placeLength : ℕ
+placeLength = 13
+
 -- the greatest count: 32 bits hold no more
 abbrev pub maxCount : ℕ
 maxCount = 4294967295
