@@ -2,3 +2,4 @@
 pub mod Real8
 pub mod Decode
 pub mod Faithful
+pub mod code

@@ -8,6 +8,7 @@ ghost use lib.Ieee.Scale.{finite};
 ghost use Rattle.binary64.specs.Value.{sizeOf, negative, floorDiv};
 ghost use Rattle.gds_format.specs.Real8.{minMagnitude, maxMagnitude, floorMod, exponentBits, pattern, valuesOf};
 ghost use Rattle.gds_format.specs.Faithful.{EncodesReal};
+ghost use Rattle.gds_format.specs.code.Power.{zeroPower, leastPower, endPower};
 
 pub enum GdsReal8Error {
     NonFinite,
@@ -108,16 +109,16 @@ fn rem_euclid_4(e: i32) -> u64
 // The binary exponent of a significand whose last digit stands for 2^power units.
 fn binary_exponent(power: u64) -> i32
     requires { ⌜ power < 2 ^ 31 ⌝ }
-    ensures { λ r. ⌜ r ≡ pos power -ℤ pos 1022 ⌝ }
+    ensures { λ r. ⌜ r ≡ pos power -ℤ pos zeroPower ⌝ }
 {
     power as i32 - LAST_DIGIT
 }
 
 // The exponent's seven bits, of a magnitude between the limits.
 fn exponent_bits(power: u64) -> u64
-    requires { ⌜ 1022 - 260 ≤ power ⌝ }
-    requires { ⌜ power < 1022 + 252 ⌝ }
-    ensures { λ r. ⌜ r ≡ exponentBits (pos power -ℤ pos 1022) ⌝ }
+    requires { ⌜ leastPower ≤ power ⌝ }
+    requires { ⌜ power < endPower ⌝ }
+    ensures { λ r. ⌜ r ≡ exponentBits (pos power -ℤ pos zeroPower) ⌝ }
 {
     (div_euclid_4(binary_exponent(power)) + EXCESS) as u64
 }
@@ -126,7 +127,7 @@ fn exponent_bits(power: u64) -> u64
 fn fraction(digits: u64, power: u64) -> u64
     requires { ⌜ digits < 2 ^ 53 ⌝ }
     requires { ⌜ power < 2 ^ 31 ⌝ }
-    ensures { λ r. ⌜ r ≡ digits * 2 ^ floorMod (pos power -ℤ pos 1022) 4 ⌝ }
+    ensures { λ r. ⌜ r ≡ digits * 2 ^ floorMod (pos power -ℤ pos zeroPower) 4 ⌝ }
 {
     digits << rem_euclid_4(binary_exponent(power))
 }

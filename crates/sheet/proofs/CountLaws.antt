@@ -12,6 +12,7 @@ use Rattle.big_endian.specs.Big.{Bytes}
 use Rattle.big_endian.proofs.BytesLaws.{take-bytes, drop-bytes}
 use Rattle.parsing.specs.All.{All, done, more}
 use Rattle.sheet.specs.Blocks.{maxPairs, pairCount, offsetOf, lengthOf, chained, pairsFit, blockOf, blocksFrom}
+use Rattle.sheet.specs.code.Place.{BlockIn}
 use Rattle.sheet.proofs.PairLaws.{pairs-block}
 
 pub record Counted (s : List ℕ) : Type 0 where
@@ -32,7 +33,7 @@ pairs-count s t =
     record { word = leb→le 4 (length s) (and-l a b g); least = leb→le 1 (pairCount s) (and-r a b g); most = leb→le (pairCount s) maxPairs (and-r (a && b) c f) }
 
 -- what `sheet::block` requires, of block k of n
-pub block-in : (s : List ℕ) (n k : ℕ) → T (pairsFit s) → n ≡ pairCount s → k < n → (12 + 8 * k ≤ length s) × (offsetOf s k + lengthOf s k ≤ length s)
+pub block-in : (s : List ℕ) (n k : ℕ) → T (pairsFit s) → n ≡ pairCount s → k < n → BlockIn s k
 block-in s n k t e h = pairs-block s k (is-true (pairsFit s) t) (go n (pairCount s) e h)
   where
     go : (n m : ℕ) → n ≡ m → k < n → k < m

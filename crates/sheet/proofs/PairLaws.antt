@@ -9,6 +9,7 @@ use lib.ListN.{length}
 use borrow.Author.Tests.{le-leb, lt-leb, eq-eqb, ne-eqb, eqb-true, leb-true}
 use native.Mathlib.Nat.{add-zero, zero-add}
 use Rattle.sheet.specs.Blocks.{maxPairs, pairCount, offsetOf, lengthOf, chained, pairsFit}
+use Rattle.sheet.specs.code.Place.{BlockIn}
 
 -- the turn at k of n
 pub left-suc : (n k : ℕ) → k < n → n - k ≡ suc (n - (k + 1))
@@ -88,7 +89,7 @@ chained-in (suc n) k e s j c h =
         subst (Fits s) i (again j (omega arith))
 
 -- every block of a sheet whose pairs fit may be asked for
-pub pairs-block : (s : List ℕ) (k : ℕ) → pairsFit s ≡ true → k < pairCount s → (12 + 8 * k ≤ length s) × (offsetOf s k + lengthOf s k ≤ length s)
+pub pairs-block : (s : List ℕ) (k : ℕ) → pairsFit s ≡ true → k < pairCount s → BlockIn s k
 unfolding pairsFit
 pairs-block s k e h =
     let f = both (leb 4 (length s) && leb 1 (pairCount s) && leb (pairCount s) maxPairs && leb (4 + 8 * pairCount s) (length s)) (chained (pairCount s) 0 (4 + 8 * pairCount s) s) e in

@@ -4,3 +4,4 @@ pub mod Element
 pub mod Blocks
 pub mod Cell
 pub mod Encode
+pub mod code

@@ -1,8 +1,7 @@
 // The cell sheet: its pairs and blocks.
 ghost use mathlib.Core.Path.{_≡_};
-ghost use Prim.Native.Nat.{_+_, _*_, _≤_};
-ghost use lib.ListN.{length};
-ghost use Rattle.sheet.specs.Blocks.{offsetOf, lengthOf, blockOf, pairsFit};
+ghost use Rattle.sheet.specs.Blocks.{blockOf, pairsFit};
+ghost use Rattle.sheet.specs.code.Place.{BlockIn};
 
 // "a 4-byte pair count n (1 to 16,384)" (document 01, "Input")
 const MAX_PAIRS: usize = 16384;
@@ -46,7 +45,7 @@ pub fn pairs_fit(sheet: &[u8]) -> bool
 
 // Block k is handed back as that part of the sheet.
 pub fn block(sheet: &[u8], k: usize) -> &[u8]
-    requires { ⌜ (12 + 8 * k ≤ length (now sheet)) × (offsetOf (now sheet) k + lengthOf (now sheet) k ≤ length (now sheet)) ⌝ }
+    requires { ⌜ BlockIn (now sheet) k ⌝ }
     ensures { λ r. ⌜ now r ≡ blockOf (now (sheet .entry)) k ⌝ }
 {
     let offset = big_endian::u32_at(sheet, 4 + 8 * k) as usize;

@@ -1,11 +1,10 @@
 -- The checks before the points: each way out, what they say of a shape that passes them, and what is left of a step after them. Assumes nothing.
-use mathlib.Core.Path.{_≡_, refl, sym, ap, _∙_, subst}
+use mathlib.Core.Path.{_≡_, refl, sym, ap, _∙_}
 use mathlib.Core.Bool.{Bool, true, false, _&&_}
 use Prim.Native.Nat.{ℕ, _≤_}
 use native.Mathlib.Omega.{arith}
-use lib.Dec.{T, leb}
+use lib.Dec.{leb}
 use borrow.Author.Tests.{leb-true}
-use Rattle.refusal.specs.declared.Refusal.{Refusal}
 use Rattle.refusal.specs.declared.Refusal.the-variants as R
 use Rattle.conversion.specs.Made.{Made, refused, pure, need, _>>=_, _>>_}
 use Rattle.conversion.proofs.MadeLaws.{need-on, need-off}
