@@ -5,5 +5,6 @@ pub mod HeadLaws
 pub mod SheetLaws
 pub mod WrittenLaws
 pub mod PutLaws
+pub mod StampsLaws
 pub mod PutHeadLaws
 pub mod StructureLaws

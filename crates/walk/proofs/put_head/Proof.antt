@@ -3,7 +3,8 @@ use mathlib.Core.Path.{ap}
 use native.Mathlib.Omega.{arith}
 use borrow.Author.Needs.{needs}
 use lib.ListN.{length}
-use Rattle.walk.proofs.PutHeadLaws.{head-room, stamps-length, head-put}
+use Rattle.walk.proofs.PutHeadLaws.{head-room, head-put}
+use Rattle.walk.proofs.StampsLaws.{stamps-length}
 use Rattle.walk.proofs.put_head.Statement.{statement}
 use Rattle.walk.proofs.put_head.Tie as tie
 
