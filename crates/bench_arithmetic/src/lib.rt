@@ -8,6 +8,7 @@ ghost use Rattle.conversion.specs.code.Answer.{outcome};
 ghost use Rattle.conversion.specs.Convert.{Spot, convertUnit};
 ghost use Rattle.bench_arithmetic.specs.Word.{wordOf};
 use conversion::Conversion;
+use conversion::CoordinateConverter;
 use conversion::GdsRoundingPolicy;
 use units::Unit;
 
@@ -36,8 +37,12 @@ fn word(c: Conversion) -> u64
 pub extern "C" fn bench_arithmetic_convert(value: f64, units: f64, d: f64) -> u64
     ensures { λ r. ⌜ ((at : Spot) → r ≡ wordOf (convertUnit Policy.Floor d at (Coordinate.Float value units))) ⌝ }
 {
+    let converter = CoordinateConverter {
+        policy: GdsRoundingPolicy::Floor,
+        d,
+    };
     let u = Unit::Float { value, units };
-    word(conversion::convert_unit(GdsRoundingPolicy::Floor, d, u))
+    word(converter.convert_unit(u))
 }
 
 // a * b + c, rounded once.
