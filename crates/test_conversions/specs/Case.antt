@@ -11,6 +11,7 @@ use Rattle.big_endian.specs.Big.{numberAt}
 use Rattle.refusal.specs.Number.{number}
 use Rattle.units.specs.declared.Unit.{Unit}
 use Rattle.units.specs.declared.Unit.the-variants as Unit
+use Rattle.conversion.specs.declared.CoordinateConverter.{CoordinateConverter}
 use Rattle.conversion.specs.declared.GdsRoundingPolicy.{GdsRoundingPolicy}
 use Rattle.conversion.specs.declared.GdsRoundingPolicy.the-variants.{Nearest, Floor, Ceil, ErrorIfOffGrid}
 use Rattle.conversion.specs.Made.{Made, refused, made}
@@ -32,6 +33,10 @@ signedAt s at = toZ w32 (numberAt 4 s at)
 
 abbrev pub policyOf : ℕ → GdsRoundingPolicy
 policyOf n = cond (eqb n 0) Nearest (cond (eqb n 1) Floor (cond (eqb n 2) Ceil ErrorIfOffGrid))
+
+-- the policy and the database unit of the case whose bytes begin at `at`
+abbrev pub converterAt : List ℕ → ℕ → CoordinateConverter
+converterAt s at = record { policy = policyOf (numberAt 1 s (at + 1)); d = doubleAt s (at + 2) }
 
 -- an integer where `what` is 0, else a double
 abbrev pub unitAt : ℕ → List ℕ → ℕ → Unit

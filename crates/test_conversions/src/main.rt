@@ -5,9 +5,10 @@ ghost use lib.ListN.{length};
 ghost use Rattle.conversion.specs.Convert.{Spot};
 ghost use Rattle.conversion.specs.code.Answer.{outcome};
 ghost use Rattle.test_conversions.specs.Case as Case;
-ghost use Rattle.test_conversions.specs.Case.{doubleAt, signedAt, policyOf, unitAt, convertedAt, answerOf, rangeAnswer, rangeAt, surveyAnswer, surveyAt, answerAt, differing};
+ghost use Rattle.test_conversions.specs.Case.{doubleAt, signedAt, policyOf, converterAt, unitAt, convertedAt, answerOf, rangeAnswer, rangeAt, surveyAnswer, surveyAt, answerAt, differing};
 use bounds::RangeAnswer;
 use conversion::Conversion;
+use conversion::CoordinateConverter;
 use conversion::GdsRoundingPolicy;
 use survey::SurveyAnswer;
 use units::Unit;
@@ -107,17 +108,27 @@ fn unit_at(what: u8, cases: &[u8], at: usize) -> Unit
     }
 }
 
+// The policy and the database unit of the case at a place.
+fn converter_at(cases: &[u8], at: usize) -> CoordinateConverter
+    requires { ⌜ at + 54 ≤ length (now cases) ⌝ }
+    ensures { λ r. ⌜ r ≡ converterAt (now (cases .entry)) at ⌝ }
+{
+    let policy = policy_of(big_endian::u8_at(cases, at + POLICY));
+    let d = double_at(cases, at + DATABASE_UNIT);
+    CoordinateConverter { policy, d }
+}
+
 // An array's endpoint.
 fn endpoint(cases: &[u8], at: usize) -> Conversion
     requires { ⌜ at + 54 ≤ length (now cases) ⌝ }
     ensures { λ r. ⌜ ((spot : Spot) → outcome spot r ≡ Case.endpointAt (now (cases .entry)) at spot) ⌝ }
 {
-    let d = double_at(cases, at + DATABASE_UNIT);
+    let converter = converter_at(cases, at);
     let p = double_at(cases, at + VALUE);
     let origin = signed_at(cases, at + ORIGIN);
     let spacing = signed_at(cases, at + SPACING);
     let count = big_endian::u32_at(cases, at + COUNT);
-    conversion::checked_array_endpoint(d, origin, spacing, count, p)
+    converter.checked_array_endpoint(origin, spacing, count, p)
 }
 
 // A coordinate.
@@ -125,10 +136,9 @@ fn coordinate(what: u8, cases: &[u8], at: usize) -> Conversion
     requires { ⌜ at + 54 ≤ length (now cases) ⌝ }
     ensures { λ r. ⌜ ((spot : Spot) → outcome spot r ≡ Case.coordinateAt what (now (cases .entry)) at spot) ⌝ }
 {
-    let policy = policy_of(big_endian::u8_at(cases, at + POLICY));
-    let d = double_at(cases, at + DATABASE_UNIT);
+    let converter = converter_at(cases, at);
     let u = unit_at(what, cases, at + VALUE);
-    conversion::convert_unit(policy, d, u)
+    converter.convert_unit(u)
 }
 
 // The conversion of the case at a place.
