@@ -1,10 +1,10 @@
 -- A case is 33 bytes: the number of a function, three operands and the result that another implementation gave, each as the bit pattern of a double, big-endian. Assumes nothing.
 use mathlib.Core.List.{List, [], _∷_}
-use mathlib.Core.Bool.{Bool, not, cond}
-use Prim.Native.Nat.{ℕ, zero, suc, _+_, _*_}
+use mathlib.Core.Bool.{Bool, cond}
+use Prim.Native.Nat.{ℕ, _+_, _*_}
 use lib.ListN.{getD}
 use lib.Dec.{eqb}
-use lib.Ieee.{Float, nan, binary64, ofBits, toBits, ofInt}
+use lib.Ieee.{Float, nan, binary64, toBits, ofInt}
 use lib.Ieee.Scale.{finite}
 use lib.Ieee.Positive.{positive}
 use Rattle.big_endian.specs.Big.{numberAt}
@@ -14,6 +14,7 @@ use Rattle.binary64.specs.Value.{roundAway, floorOf, ceilOf}
 use Rattle.test_arithmetic.specs.Whole.{wholeOf}
 use Rattle.binary64.specs.Step.{oneStep}
 use Rattle.binary64.specs.Fma.{fma}
+use Rattle.test_report.specs.Cases.{doubleAt}
 
 -- the answer of a rounding of x as a double: from 2 ^ 52 on x is whole itself
 abbrev pub doubleOf : Float → Whole → Float
@@ -37,15 +38,6 @@ results x y z =
     ∷ oneOf (positive x)
     ∷ []
 
--- a double of the case whose bytes begin at `at`
-abbrev pub doubleAt : List ℕ → ℕ → Float
-doubleAt s at = ofBits binary64 (numberAt 8 s at)
-
 -- whether case k has the result that its function gives; a number beyond the functions gives 0
 unfoldable pub agrees : List ℕ → ℕ → Bool
 agrees s k = eqb (getD (results (doubleAt s (33 * k + 1)) (doubleAt s (33 * k + 9)) (doubleAt s (33 * k + 17))) (numberAt 1 s (33 * k)) 0) (numberAt 8 s (33 * k + 25))
-
--- how many of the first n cases do not
-unfoldable pub differing : List ℕ → ℕ → ℕ
-differing s zero = 0
-differing s (suc n) = differing s n + oneOf (not (agrees s n))

@@ -5,7 +5,8 @@ ghost use lib.ListN.{length, getD};
 ghost use Rattle.binary64.specs.code.Whole.{rounded};
 ghost use Rattle.test_arithmetic.specs.Whole.{wholeOf};
 ghost use Rattle.test_arithmetic.specs.Case as Case;
-ghost use Rattle.test_arithmetic.specs.Case.{doubleOf, oneOf, results, doubleAt, differing};
+ghost use Rattle.test_arithmetic.specs.Case.{doubleOf, oneOf, results};
+ghost use Rattle.test_report.specs.Cases.{differing};
 use binary64::Direction;
 
 // The bytes of a case: a function's number, then three operands and the result at these places.
@@ -101,14 +102,6 @@ fn result(function: u8, x: f64, y: f64, z: f64) -> u64
     }
 }
 
-// The double at a place.
-fn double_at(cases: &[u8], at: usize) -> f64
-    requires { ⌜ at + 8 ≤ length (now cases) ⌝ }
-    ensures { λ r. ⌜ r ≡ doubleAt (now (cases .entry)) at ⌝ }
-{
-    binary64::from_bits(big_endian::u64_at(cases, at))
-}
-
 // Whether case k has the result that its function gives.
 fn agrees(cases: &[u8], k: usize) -> bool
     requires { ⌜ 33 * k + 33 ≤ length (now cases) ⌝ }
@@ -116,30 +109,22 @@ fn agrees(cases: &[u8], k: usize) -> bool
 {
     let at = SIZE * k;
     let function = big_endian::u8_at(cases, at);
-    let x = double_at(cases, at + FIRST);
-    let y = double_at(cases, at + SECOND);
-    let z = double_at(cases, at + THIRD);
+    let x = test_report::double_at(cases, at + FIRST);
+    let y = test_report::double_at(cases, at + SECOND);
+    let z = test_report::double_at(cases, at + THIRD);
     let known = big_endian::u64_at(cases, at + RESULT);
     result(function, x, y, z) == known
 }
 
-fn print_line(n: usize) {
-    io::print_decimal(1, n as u64);
-    io::write_all(1, b"\n");
-}
-
 // Prints the number of each case that differs, and answers how many do.
 fn differ(cases: &[u8]) -> usize
-    ensures { λ r. ⌜ r ≡ differing (now (cases .entry)) (length (now (cases .entry)) / 33) ⌝ }
+    ensures { λ r. ⌜ r ≡ differing (Case.agrees (now (cases .entry))) (length (now (cases .entry)) / 33) ⌝ }
 {
     let count = cases.len() / SIZE;
     let mut found: usize = 0;
     let mut k: usize = 0;
     while k < count {
-        if !agrees(cases, k) {
-            print_line(k);
-            found += 1;
-        }
+        found = test_report::tell_case(agrees(cases, k), k, found);
         k += 1;
     }
     found
@@ -149,8 +134,5 @@ fn main() {
     let mut input = io::large_buffer();
     let n = io::read_full(0, &mut input);
     let found = differ(&input[..n]);
-    io::print_decimal(1, (n / SIZE) as u64);
-    io::write_all(1, b" cases, ");
-    io::print_decimal(1, found as u64);
-    io::write_all(1, b" differ\n");
+    test_report::tell_counts(n / SIZE, found);
 }

@@ -1,10 +1,10 @@
 -- A case is 54 bytes: a conversion, two bounds, or a pitch survey, and the answer that another implementation gave. Its layout stands in tools/conversions.py. Assumes nothing.
 use mathlib.Core.List.{List, [], _∷_}
-use mathlib.Core.Bool.{Bool, not, _&&_, cond}
-use Prim.Native.Nat.{ℕ, zero, suc, _+_, _*_, _^_}
+use mathlib.Core.Bool.{Bool, _&&_, cond}
+use Prim.Native.Nat.{ℕ, _+_, _*_, _^_}
 use lib.Dec.{eqb}
 use lib.IntN.{ℤ}
-use lib.Ieee.{Float, binary64, ofBits, toBits}
+use lib.Ieee.{binary64, toBits}
 use mir.Syntax.{w32}
 use mir.Val.{toZ, ofZ}
 use Rattle.big_endian.specs.Big.{numberAt}
@@ -21,12 +21,10 @@ use Rattle.bounds.specs.Answer as Bounds
 use Rattle.bounds.specs.Answer.{Values, valuesOf}
 use Rattle.survey.specs.Places.{surveyPitch}
 use Rattle.survey.specs.Answer as Survey
+use Rattle.test_report.specs.Cases.{doubleAt}
 use Rattle.test_conversions.specs.declared.Answer.{Answer}
 
 -- ---- the conversion
-
-abbrev pub doubleAt : List ℕ → ℕ → Float
-doubleAt s at = ofBits binary64 (numberAt 8 s at)
 
 abbrev pub signedAt : List ℕ → ℕ → ℤ
 signedAt s at = toZ w32 (numberAt 4 s at)
@@ -94,8 +92,3 @@ isAt a s at = wordsAt (a .first) (a .second) (a .third) s at
 -- whether case k has the answer that the definitions give
 unfoldable pub agrees : List ℕ → ℕ → Bool
 agrees s k = isAt (answerAt s (54 * k)) s (54 * k + 30)
-
--- how many of the first n cases do not
-unfoldable pub differing : List ℕ → ℕ → ℕ
-differing s zero = 0
-differing s (suc n) = differing s n + cond (not (agrees s n)) 1 0

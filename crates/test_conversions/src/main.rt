@@ -2,14 +2,18 @@
 ghost use mathlib.Core.Path.{_≡_};
 ghost use Prim.Native.Nat.{_+_, _*_, _/_, _≤_};
 ghost use lib.ListN.{length};
+ghost use Rattle.big_endian.specs.Big.{numberAt};
+ghost use Rattle.conversion.specs.Made.{refused};
 ghost use Rattle.conversion.specs.Convert.{Spot};
 ghost use Rattle.conversion.specs.code.Answer.{outcome};
 ghost use Rattle.test_conversions.specs.Case as Case;
-ghost use Rattle.test_conversions.specs.Case.{doubleAt, signedAt, policyOf, converterAt, unitAt, convertedAt, answerOf, rangeAnswer, rangeAt, surveyAnswer, surveyAt, answerAt, differing};
+ghost use Rattle.test_conversions.specs.Case.{signedAt, policyOf, converterAt, unitAt, convertedAt, answerOf, rangeAnswer, rangeAt, surveyAnswer, surveyAt, answerAt};
+ghost use Rattle.test_report.specs.Cases.{doubleAt, differing};
 use bounds::RangeAnswer;
 use conversion::Conversion;
 use conversion::CoordinateConverter;
 use conversion::GdsRoundingPolicy;
+use refusal::Refusal;
 use survey::SurveyAnswer;
 use units::Unit;
 
@@ -66,11 +70,10 @@ struct Answer {
     third: u64,
 }
 
-fn double_at(cases: &[u8], at: usize) -> f64
-    requires { ⌜ at + 8 ≤ length (now cases) ⌝ }
-    ensures { λ r. ⌜ r ≡ doubleAt (now (cases .entry)) at ⌝ }
-{
-    binary64::from_bits(big_endian::u64_at(cases, at))
+// What a caller gives first: the number of a policy, and the database unit.
+struct Caller {
+    policy: u8,
+    d: f64,
 }
 
 fn signed_at(cases: &[u8], at: usize) -> i32
@@ -98,24 +101,36 @@ fn unit_at(what: u8, cases: &[u8], at: usize) -> Unit
     requires { ⌜ at + 16 ≤ length (now cases) ⌝ }
     ensures { λ r. ⌜ r ≡ unitAt what (now (cases .entry)) at ⌝ }
 {
-    let units = double_at(cases, at + 8);
+    let units = test_report::double_at(cases, at + 8);
     if what == INTEGER {
         let value = signed_at(cases, at + 4);
         Unit::Integer { value, units }
     } else {
-        let value = double_at(cases, at);
+        let value = test_report::double_at(cases, at);
         Unit::Float { value, units }
     }
 }
 
-// The policy and the database unit of the case at a place.
+// The caller of the case at a place.
+fn caller_at(cases: &[u8], at: usize) -> Caller
+    requires { ⌜ at + 54 ≤ length (now cases) ⌝ }
+    ensures { λ r. ⌜ (r .policy ≡ numberAt 1 (now (cases .entry)) (at + 1)) × (r .d ≡ doubleAt (now (cases .entry)) (at + 2)) ⌝ }
+{
+    let policy = big_endian::u8_at(cases, at + POLICY);
+    let d = test_report::double_at(cases, at + DATABASE_UNIT);
+    Caller { policy, d }
+}
+
 fn converter_at(cases: &[u8], at: usize) -> CoordinateConverter
     requires { ⌜ at + 54 ≤ length (now cases) ⌝ }
     ensures { λ r. ⌜ r ≡ converterAt (now (cases .entry)) at ⌝ }
 {
-    let policy = policy_of(big_endian::u8_at(cases, at + POLICY));
-    let d = double_at(cases, at + DATABASE_UNIT);
-    CoordinateConverter { policy, d }
+    let caller = caller_at(cases, at);
+    let policy = policy_of(caller.policy);
+    CoordinateConverter {
+        policy,
+        d: caller.d,
+    }
 }
 
 // An array's endpoint.
@@ -124,7 +139,7 @@ fn endpoint(cases: &[u8], at: usize) -> Conversion
     ensures { λ r. ⌜ ((spot : Spot) → outcome spot r ≡ Case.endpointAt (now (cases .entry)) at spot) ⌝ }
 {
     let converter = converter_at(cases, at);
-    let p = double_at(cases, at + VALUE);
+    let p = test_report::double_at(cases, at + VALUE);
     let origin = signed_at(cases, at + ORIGIN);
     let spacing = signed_at(cases, at + SPACING);
     let count = big_endian::u32_at(cases, at + COUNT);
@@ -154,15 +169,22 @@ fn converted(cases: &[u8], at: usize) -> Conversion
     }
 }
 
+fn refusal_answer(refusal: Refusal) -> Answer
+    ensures { λ r. ⌜ r ≡ answerOf (refused refusal) ⌝ }
+{
+    let first = (refusal.number() as u64) * REFUSAL;
+    Answer {
+        first,
+        second: 0,
+        third: 0,
+    }
+}
+
 fn answer_of(c: Conversion) -> Answer
     ensures { λ r. ⌜ ((spot : Spot) → r ≡ answerOf (outcome spot c)) ⌝ }
 {
     match c {
-        Conversion::Refused { refusal } => Answer {
-            first: (refusal.number() as u64) * REFUSAL,
-            second: 0,
-            third: 0,
-        },
+        Conversion::Refused { refusal } => refusal_answer(refusal),
         Conversion::Converted { value } => Answer {
             first: big_endian::as_u32(value) as u64,
             second: 0,
@@ -185,16 +207,11 @@ fn range_answer(cases: &[u8], at: usize) -> Answer
     requires { ⌜ at + 54 ≤ length (now cases) ⌝ }
     ensures { λ r. ⌜ r ≡ rangeAnswer (rangeAt (now (cases .entry)) at) ⌝ }
 {
-    let policy = big_endian::u8_at(cases, at + POLICY);
-    let d = double_at(cases, at + DATABASE_UNIT);
-    let lower = double_at(cases, at + LOWER);
-    let upper = double_at(cases, at + UPPER);
-    match bounds::convert_bounds(policy, d, lower, upper) {
-        RangeAnswer::Refused { refusal } => Answer {
-            first: (refusal.number() as u64) * REFUSAL,
-            second: 0,
-            third: 0,
-        },
+    let caller = caller_at(cases, at);
+    let lower = test_report::double_at(cases, at + LOWER);
+    let upper = test_report::double_at(cases, at + UPPER);
+    match bounds::convert_bounds(caller.policy, caller.d, lower, upper) {
+        RangeAnswer::Refused { refusal } => refusal_answer(refusal),
         RangeAnswer::Range { least, greatest } => Answer {
             first: big_endian::as_u32(least) as u64,
             second: big_endian::as_u32(greatest) as u64,
@@ -208,16 +225,11 @@ fn survey_answer(cases: &[u8], at: usize) -> Answer
     requires { ⌜ at + 54 ≤ length (now cases) ⌝ }
     ensures { λ r. ⌜ r ≡ surveyAnswer (surveyAt (now (cases .entry)) at) ⌝ }
 {
-    let policy = big_endian::u8_at(cases, at + POLICY);
-    let d = double_at(cases, at + DATABASE_UNIT);
-    let pitch = double_at(cases, at + PITCH);
+    let caller = caller_at(cases, at);
+    let pitch = test_report::double_at(cases, at + PITCH);
     let n = big_endian::u32_at(cases, at + PLACES);
-    match survey::survey_pitch(policy, d, pitch, n) {
-        SurveyAnswer::Refused { refusal } => Answer {
-            first: (refusal.number() as u64) * REFUSAL,
-            second: 0,
-            third: 0,
-        },
+    match survey::survey_pitch(caller.policy, caller.d, pitch, n) {
+        SurveyAnswer::Refused { refusal } => refusal_answer(refusal),
         SurveyAnswer::Surveyed { counts } => Answer {
             first: counts.clean as u64,
             second: counts.due as u64,
@@ -265,41 +277,23 @@ fn agrees(cases: &[u8], k: usize) -> bool
     is_at(a.first, a.second, a.third, cases, at + ANSWER)
 }
 
-fn print_line(n: usize) {
-    io::print_decimal(1, n as u64);
-    io::write_all(1, b"\n");
-}
-
 // Prints the number of each case that differs, and answers how many do.
 fn differ(cases: &[u8]) -> usize
-    ensures { λ r. ⌜ r ≡ differing (now (cases .entry)) (length (now (cases .entry)) / 54) ⌝ }
+    ensures { λ r. ⌜ r ≡ differing (Case.agrees (now (cases .entry))) (length (now (cases .entry)) / 54) ⌝ }
 {
     let count = cases.len() / SIZE;
     let mut found: usize = 0;
     let mut k: usize = 0;
     while k < count {
-        if !agrees(cases, k) {
-            print_line(k);
-            found += 1;
-        }
+        found = test_report::tell_case(agrees(cases, k), k, found);
         k += 1;
     }
     found
 }
 
-// 131,072 zeros, for all cases at once.
-fn room() -> [u8; 131072]
-    ensures { λ r. ⌜ 131072 ≡ length r ⌝ }
-{
-    [0; 131072]
-}
-
 fn main() {
-    let mut input = room();
+    let mut input = test_report::room();
     let n = io::read_full(0, &mut input);
     let found = differ(&input[..n]);
-    io::print_decimal(1, (n / SIZE) as u64);
-    io::write_all(1, b" cases, ");
-    io::print_decimal(1, found as u64);
-    io::write_all(1, b" differ\n");
+    test_report::tell_counts(n / SIZE, found);
 }

@@ -119,7 +119,7 @@ fn answered(cases: &[u8], at: usize) -> bool
     let n = big_endian::u32_at(cases, at) as usize;
     let m = big_endian::u32_at(cases, at + INPUT + n) as usize;
     let policy = big_endian::u8_at(cases, at + INPUT);
-    let d = binary64::from_bits(big_endian::u64_at(cases, at + D));
+    let d = test_report::double_at(cases, at + D);
     let mut text = [0u8; 24593];
     let end = put_answer(&mut text, policy, d, &cases[at + SHEET..at + INPUT + n]);
     let start = at + LENGTHS + n;
@@ -136,11 +136,6 @@ fn agrees(cases: &[u8], at: usize) -> bool
     false
 }
 
-fn print_line(n: usize) {
-    io::print_decimal(1, n as u64);
-    io::write_all(1, b"\n");
-}
-
 // Prints the number of each case that differs.
 fn walk(cases: &[u8]) -> Tally
     ensures { λ r. ⌜ r ≡ tallyOf (verdicts (now (cases .entry))) ⌝ }
@@ -149,10 +144,7 @@ fn walk(cases: &[u8]) -> Tally
     let mut count: usize = 0;
     let mut found: usize = 0;
     while at < cases.len() {
-        if !agrees(cases, at) {
-            print_line(count);
-            found += 1;
-        }
+        found = test_report::tell_case(agrees(cases, at), count, found);
         count += 1;
         at = next_place(cases, at);
     }
@@ -162,19 +154,9 @@ fn walk(cases: &[u8]) -> Tally
     }
 }
 
-// 2,097,152 zeros, for all cases at once.
-fn room() -> [u8; 2097152]
-    ensures { λ r. ⌜ 2097152 ≡ length r ⌝ }
-{
-    [0; 2097152]
-}
-
 fn main() {
-    let mut input = room();
+    let mut input = test_report::room();
     let n = io::read_full(0, &mut input);
     let told = walk(&input[..n]);
-    io::print_decimal(1, told.cases as u64);
-    io::write_all(1, b" cases, ");
-    io::print_decimal(1, told.differ as u64);
-    io::write_all(1, b" differ\n");
+    test_report::tell_counts(told.cases, told.differ);
 }

@@ -6,7 +6,8 @@ use lib.ListN.{getD}
 use lib.Dec.{eqb}
 use lib.Ieee.{Float}
 use Rattle.big_endian.specs.Big.{numberAt}
-use Rattle.test_arithmetic.specs.Case.{doubleAt, results, agrees}
+use Rattle.test_report.specs.Cases.{doubleAt}
+use Rattle.test_arithmetic.specs.Case.{results, agrees}
 use borrow.Author.Needs.{needs}
 use Rattle.test_arithmetic.proofs.agrees.Statement.{statement}
 use Rattle.test_arithmetic.proofs.agrees.Tie as tie

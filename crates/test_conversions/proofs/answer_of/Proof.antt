@@ -1,6 +1,6 @@
 -- `test_conversions::answer_of` meets its contract. Assumes nothing.
 use mathlib.Core.Path.{_≡_, sym, ap, _∙_}
-use Prim.Native.Nat.{ℕ, _+_, _*_, _^_}
+use Prim.Native.Nat.{ℕ, _+_, _^_}
 use mir.Syntax.{w32}
 use mir.Val.{SFits, ofZ}
 use mir.ValLaws.{toZ-ofZ}
@@ -21,14 +21,8 @@ ap₃ f e g h = cc
 enum-known-c : tie.Need-enum-known-c
 enum-known-c c = search needs
 
-number-requires : tie.Need-number-requires
-number-requires c κs = search needs
-
-cast-t9 : tie.Need-cast-t9
-cast-t9 c = search needs
-
-mul-t10 : tie.Need-mul-t10
-mul-t10 c = search needs
+refusal-answer-requires : tie.Need-refusal-answer-requires
+refusal-answer-requires c κs = search needs
 
 enum-known-c-2 : tie.Need-enum-known-c-2
 enum-known-c-2 c = search needs
@@ -36,8 +30,8 @@ enum-known-c-2 c = search needs
 as-u32-requires : tie.Need-as-u32-requires
 as-u32-requires c κs = search needs
 
-cast-t12 : tie.Need-cast-t12
-cast-t12 c = search needs
+cast-t9 : tie.Need-cast-t9
+cast-t9 c = search needs
 
 enum-known-c-3 : tie.Need-enum-known-c-3
 enum-known-c-3 c = search needs
@@ -45,11 +39,11 @@ enum-known-c-3 c = search needs
 as-u32-requires-2 : tie.Need-as-u32-requires-2
 as-u32-requires-2 c κs = search needs
 
-cast-t14 : tie.Need-cast-t14
-cast-t14 c = search needs
+cast-t11 : tie.Need-cast-t11
+cast-t11 c = search needs
 
-add-t15 : tie.Need-add-t15
-add-t15 c = search needs
+add-t12 : tie.Need-add-t12
+add-t12 c = search needs
 
 to-bits-requires : tie.Need-to-bits-requires
 to-bits-requires c κs = search needs
@@ -58,7 +52,7 @@ to-bits-requires-2 : tie.Need-to-bits-requires-2
 to-bits-requires-2 c κs = search needs
 
 returns : tie.Need-returns
-returns c spot = let k = c .before .before .c in ap (λ (n : ℕ). words (n * 2 ^ 40) 0 0) (c .number .ensures) ∙ sym (ap (λ (v : Conversion). answerOf (outcome spot v)) (k .given .1))
+returns c spot = let k = c .before .before .c in c .refusal-answer .ensures ∙ sym (ap (λ (v : Conversion). answerOf (outcome spot v)) (k .given .1))
 
 returns-2 : tie.Need-returns-2
 returns-2 c spot =
@@ -78,16 +72,14 @@ answer-of-spec =
     tie.close
     (tie.spec
     enum-known-c
-    number-requires
-    cast-t9
-    mul-t10
+    refusal-answer-requires
     enum-known-c-2
     as-u32-requires
-    cast-t12
+    cast-t9
     enum-known-c-3
     as-u32-requires-2
-    cast-t14
-    add-t15
+    cast-t11
+    add-t12
     to-bits-requires
     to-bits-requires-2
     returns

@@ -9,7 +9,8 @@ use mir.ValLaws.{toZ-ofZ}
 use Rattle.big_endian.specs.Big.{numberAt}
 use Rattle.conversion.specs.declared.CoordinateConverter.{CoordinateConverter}
 use Rattle.conversion.specs.Convert.{Spot, arrayEndpoint}
-use Rattle.test_conversions.specs.Case.{doubleAt, signedAt, converterAt, endpointAt}
+use Rattle.test_report.specs.Cases.{doubleAt}
+use Rattle.test_conversions.specs.Case.{signedAt, converterAt, endpointAt}
 use borrow.Author.Needs.{needs}
 use Rattle.test_conversions.proofs.endpoint.Statement.{statement}
 use Rattle.test_conversions.proofs.endpoint.Tie as tie

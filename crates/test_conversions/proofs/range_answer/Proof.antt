@@ -1,7 +1,7 @@
 -- `test_conversions::range_answer` meets its contract. Assumes nothing.
 use mathlib.Core.Path.{_≡_, sym, ap, ap₂, _∙_}
 use mathlib.Core.List.{List}
-use Prim.Native.Nat.{ℕ, _+_, _*_, _^_}
+use Prim.Native.Nat.{ℕ, _+_}
 use native.Mathlib.Nat.{add-zero, zero-add}
 use lib.Ieee.{Float}
 use mir.Syntax.{w32}
@@ -12,7 +12,8 @@ use Rattle.bounds.specs.declared.RangeAnswer.{RangeAnswer}
 use Rattle.bounds.specs.Answer.{valuesOf}
 use Rattle.bounds.specs.Bounds.{ConvertsBounds}
 use Rattle.test_conversions.specs.declared.Answer.{Answer}
-use Rattle.test_conversions.specs.Case.{doubleAt, rangeAnswer, rangeAt}
+use Rattle.test_report.specs.Cases.{doubleAt}
+use Rattle.test_conversions.specs.Case.{rangeAnswer, rangeAt}
 use borrow.Author.Needs.{needs}
 use Rattle.test_conversions.proofs.range_answer.Statement.{statement}
 use Rattle.test_conversions.proofs.range_answer.Tie as tie
@@ -26,14 +27,11 @@ unfolding rangeAt
 by-parts s at p d lo hi v a b e f h = rw (← a, ← b, ← e, ← f) (h .answer)
 
 -- what `convert_bounds` answered is the case's range
-asked : (k : tie.After-convert-bounds) → rangeAnswer (valuesOf (k .convert-bounds .result)) ≡ rangeAnswer (rangeAt (k .before .before .before .before .before .before .args .cases .now) (k .before .before .before .before .before .before .args .at))
-asked k = let m = k .before in ap rangeAnswer (by-parts _ _ _ _ _ _ (k .convert-bounds .result) (m .before .before .before .u8-at .ensures) (m .before .before .double-at .ensures) (m .before .double-at2 .ensures) (m .double-at3 .ensures) (k .convert-bounds .ensures))
+asked : (k : tie.After-convert-bounds) → rangeAnswer (valuesOf (k .convert-bounds .result)) ≡ rangeAnswer (rangeAt (k .before .before .before .before .before .args .cases .now) (k .before .before .before .before .before .args .at))
+asked k = let m = k .before in let v = m .before .before .caller-at .ensures in ap rangeAnswer (by-parts _ _ _ _ _ _ (k .convert-bounds .result) (v .0) (v .1) (m .before .double-at .ensures) (m .double-at2 .ensures) (k .convert-bounds .ensures))
 
-add-u8-at : tie.Need-add-u8-at
-add-u8-at c = search needs
-
-u8-at-requires : tie.Need-u8-at-requires
-u8-at-requires c κs = search needs
+caller-at-requires : tie.Need-caller-at-requires
+caller-at-requires c κs = search needs
 
 add-double-at : tie.Need-add-double-at
 add-double-at c = search needs
@@ -47,26 +45,14 @@ add-double-at-2 c = search needs
 double-at-requires-2 : tie.Need-double-at-requires-2
 double-at-requires-2 c κs = search needs
 
-add-double-at-3 : tie.Need-add-double-at-3
-add-double-at-3 c = search needs
-
-double-at-requires-3 : tie.Need-double-at-requires-3
-double-at-requires-3 c κs = search needs
-
 convert-bounds-requires : tie.Need-convert-bounds-requires
 convert-bounds-requires c κs = search needs
 
 enum-known-refusal : tie.Need-enum-known-refusal
 enum-known-refusal c = search needs
 
-number-requires : tie.Need-number-requires
-number-requires c κs = search needs
-
-cast-t14 : tie.Need-cast-t14
-cast-t14 c = search needs
-
-mul-t15 : tie.Need-mul-t15
-mul-t15 c = search needs
+refusal-answer-requires : tie.Need-refusal-answer-requires
+refusal-answer-requires c κs = search needs
 
 enum-known-least : tie.Need-enum-known-least
 enum-known-least c = search needs
@@ -74,19 +60,19 @@ enum-known-least c = search needs
 as-u32-requires : tie.Need-as-u32-requires
 as-u32-requires c κs = search needs
 
-cast-t17 : tie.Need-cast-t17
-cast-t17 c = search needs
+cast-t13 : tie.Need-cast-t13
+cast-t13 c = search needs
 
 as-u32-requires-2 : tie.Need-as-u32-requires-2
 as-u32-requires-2 c κs = search needs
 
-cast-t19 : tie.Need-cast-t19
-cast-t19 c = search needs
+cast-t15 : tie.Need-cast-t15
+cast-t15 c = search needs
 
 returns : tie.Need-returns
 returns c =
     let k = c .before .before in
-    ap (λ (n : ℕ). words (n * 2 ^ 40) 0) (c .number .ensures)
+    c .refusal-answer .ensures
     ∙ ap (λ (n : ℕ). words n 0) (sym (add-zero _))
     ∙ sym (ap (λ (v : RangeAnswer). rangeAnswer (valuesOf v)) (k .refusal .given .1))
     ∙ asked (k .before .before)
@@ -105,23 +91,18 @@ pub range-answer-spec : {M : Type 1} → statement M
 range-answer-spec =
     tie.close
     (tie.spec
-    add-u8-at
-    u8-at-requires
+    caller-at-requires
     add-double-at
     double-at-requires
     add-double-at-2
     double-at-requires-2
-    add-double-at-3
-    double-at-requires-3
     convert-bounds-requires
     enum-known-refusal
-    number-requires
-    cast-t14
-    mul-t15
+    refusal-answer-requires
     enum-known-least
     as-u32-requires
-    cast-t17
+    cast-t13
     as-u32-requires-2
-    cast-t19
+    cast-t15
     returns
     returns-2)

@@ -1,7 +1,7 @@
 -- `test_conversions::survey_answer` meets its contract. Assumes nothing.
 use mathlib.Core.Path.{_≡_, sym, ap, _∙_}
 use mathlib.Core.List.{List}
-use Prim.Native.Nat.{ℕ, _+_, _*_, _^_}
+use Prim.Native.Nat.{ℕ, _+_}
 use native.Mathlib.Nat.{add-zero, zero-add}
 use lib.Ieee.{Float}
 use Rattle.big_endian.specs.Big.{numberAt}
@@ -9,7 +9,8 @@ use Rattle.survey.specs.declared.SurveyAnswer.{SurveyAnswer}
 use Rattle.survey.specs.Answer.{valuesOf}
 use Rattle.survey.specs.Survey.{SurveysPitch}
 use Rattle.test_conversions.specs.declared.Answer.{Answer}
-use Rattle.test_conversions.specs.Case.{doubleAt, surveyAnswer, surveyAt}
+use Rattle.test_report.specs.Cases.{doubleAt}
+use Rattle.test_conversions.specs.Case.{surveyAnswer, surveyAt}
 use borrow.Author.Needs.{needs}
 use Rattle.test_conversions.proofs.survey_answer.Statement.{statement}
 use Rattle.test_conversions.proofs.survey_answer.Tie as tie
@@ -23,26 +24,17 @@ unfolding surveyAt
 by-parts s at p n d pitch v a b e f h = rw (← a, ← b, ← e, ← f) (h .answer)
 
 -- what `survey_pitch` answered is the case's survey
-asked : (k : tie.After-survey-pitch) → surveyAnswer (valuesOf (k .survey-pitch .result)) ≡ surveyAnswer (surveyAt (k .before .before .before .before .before .before .args .cases .now) (k .before .before .before .before .before .before .args .at))
-asked k = let m = k .before in ap surveyAnswer (by-parts _ _ _ _ _ _ (k .survey-pitch .result) (m .before .before .before .u8-at .ensures) (m .before .before .double-at .ensures) (m .before .double-at2 .ensures) (m .u32-at .ensures) (k .survey-pitch .ensures))
+asked : (k : tie.After-survey-pitch) → surveyAnswer (valuesOf (k .survey-pitch .result)) ≡ surveyAnswer (surveyAt (k .before .before .before .before .before .args .cases .now) (k .before .before .before .before .before .args .at))
+asked k = let m = k .before in let v = m .before .before .caller-at .ensures in ap surveyAnswer (by-parts _ _ _ _ _ _ (k .survey-pitch .result) (v .0) (v .1) (m .before .double-at .ensures) (m .u32-at .ensures) (k .survey-pitch .ensures))
 
-add-u8-at : tie.Need-add-u8-at
-add-u8-at c = search needs
-
-u8-at-requires : tie.Need-u8-at-requires
-u8-at-requires c κs = search needs
+caller-at-requires : tie.Need-caller-at-requires
+caller-at-requires c κs = search needs
 
 add-double-at : tie.Need-add-double-at
 add-double-at c = search needs
 
 double-at-requires : tie.Need-double-at-requires
 double-at-requires c κs = search needs
-
-add-double-at-2 : tie.Need-add-double-at-2
-add-double-at-2 c = search needs
-
-double-at-requires-2 : tie.Need-double-at-requires-2
-double-at-requires-2 c κs = search needs
 
 add-u32-at : tie.Need-add-u32-at
 add-u32-at c = search needs
@@ -56,31 +48,25 @@ survey-pitch-requires c κs = search needs
 enum-known-refusal : tie.Need-enum-known-refusal
 enum-known-refusal c = search needs
 
-number-requires : tie.Need-number-requires
-number-requires c κs = search needs
-
-cast-t13 : tie.Need-cast-t13
-cast-t13 c = search needs
-
-mul-t14 : tie.Need-mul-t14
-mul-t14 c = search needs
+refusal-answer-requires : tie.Need-refusal-answer-requires
+refusal-answer-requires c κs = search needs
 
 enum-known-counts : tie.Need-enum-known-counts
 enum-known-counts c = search needs
 
-cast-t15 : tie.Need-cast-t15
-cast-t15 c = search needs
+cast-t11 : tie.Need-cast-t11
+cast-t11 c = search needs
 
-cast-t16 : tie.Need-cast-t16
-cast-t16 c = search needs
+cast-t12 : tie.Need-cast-t12
+cast-t12 c = search needs
 
-cast-t17 : tie.Need-cast-t17
-cast-t17 c = search needs
+cast-t13 : tie.Need-cast-t13
+cast-t13 c = search needs
 
 returns : tie.Need-returns
 returns c =
     let k = c .before .before in
-    ap (λ (n : ℕ). words (n * 2 ^ 40) 0 0) (c .number .ensures)
+    c .refusal-answer .ensures
     ∙ ap (λ (n : ℕ). words n 0 0) (sym (add-zero _))
     ∙ sym (ap (λ (v : SurveyAnswer). surveyAnswer (valuesOf v)) (k .refusal .given .1))
     ∙ asked (k .before .before)
@@ -97,22 +83,17 @@ pub survey-answer-spec : {M : Type 1} → statement M
 survey-answer-spec =
     tie.close
     (tie.spec
-    add-u8-at
-    u8-at-requires
+    caller-at-requires
     add-double-at
     double-at-requires
-    add-double-at-2
-    double-at-requires-2
     add-u32-at
     u32-at-requires
     survey-pitch-requires
     enum-known-refusal
-    number-requires
-    cast-t13
-    mul-t14
+    refusal-answer-requires
     enum-known-counts
-    cast-t15
-    cast-t16
-    cast-t17
+    cast-t11
+    cast-t12
+    cast-t13
     returns
     returns-2)

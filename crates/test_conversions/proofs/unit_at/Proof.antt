@@ -8,7 +8,8 @@ use mir.Syntax.{w32}
 use mir.ValLaws.{toZ-ofZ}
 use borrow.Author.Tests.{eq-eqb, ne-eqb}
 use Rattle.units.specs.declared.Unit.the-variants as Unit
-use Rattle.test_conversions.specs.Case.{doubleAt, signedAt, unitAt}
+use Rattle.test_report.specs.Cases.{doubleAt}
+use Rattle.test_conversions.specs.Case.{signedAt, unitAt}
 use borrow.Author.Needs.{needs}
 use Rattle.test_conversions.proofs.unit_at.Statement.{statement}
 use Rattle.test_conversions.proofs.unit_at.Tie as tie

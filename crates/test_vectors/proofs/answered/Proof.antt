@@ -1,6 +1,5 @@
 -- `test_vectors::answered` meets its contract. Assumes nothing.
-use mathlib.Core.Path.{sym, ap, _∙_}
-use lib.Ieee.{binary64, ofBits}
+use mathlib.Core.Path.{sym}
 use native.Mathlib.Omega.{arith}
 use lib.Seq.{length-take-le}
 use Rattle.big_endian.proofs.BufferLaws.{length-at}
@@ -33,14 +32,11 @@ add-u8-at c = search needs
 u8-at-requires : tie.Need-u8-at-requires
 u8-at-requires c κs = search needs
 
-add-u64-at : tie.Need-add-u64-at
-add-u64-at c = search needs
+add-double-at : tie.Need-add-double-at
+add-double-at c = search needs
 
-u64-at-requires : tie.Need-u64-at-requires
-u64-at-requires c κs = search needs
-
-from-bits-requires : tie.Need-from-bits-requires
-from-bits-requires c κs = search needs
+double-at-requires : tie.Need-double-at-requires
+double-at-requires c κs = search needs
 
 slice-aggregate-put-answer : tie.Need-slice-aggregate-put-answer
 slice-aggregate-put-answer c = search needs
@@ -94,7 +90,7 @@ part-same-start c = search needs
 
 part-same-end : tie.Need-part-same-end
 part-same-end c =
-    let h = stored-end (c .before .before .before .before .before .before .before .before .before .before .before .args .cases .now) (c .before .before .before .before .before .before .before .before .before .before .before .args .at) (c .before .before .before .before .before .before .before .before .before .u32-at .result) (c .before .before .before .before .before .before .before .before .u32-at2 .result) (c .before .before .before .before .before .before .before .before .before .before .before .pre) (c .before .before .before .before .before .before .before .before .before .u32-at .ensures) (c .before .before .before .before .before .before .before .before .u32-at2 .ensures) in
+    let h = stored-end (c .before .before .before .before .before .before .before .before .before .before .args .cases .now) (c .before .before .before .before .before .before .before .before .before .before .args .at) (c .before .before .before .before .before .before .before .before .u32-at .result) (c .before .before .before .before .before .before .before .u32-at2 .result) (c .before .before .before .before .before .before .before .before .before .before .pre) (c .before .before .before .before .before .before .before .before .u32-at .ensures) (c .before .before .before .before .before .before .before .u32-at2 .ensures) in
     search needs
 
 same-requires : tie.Need-same-requires
@@ -103,9 +99,8 @@ same-requires c κs = search needs
 returns : tie.Need-returns
 returns c =
     let at-put-answer = c .before .before .before .before in
-    let at-from-bits = at-put-answer .before .before .before in
-    let at-u64-at = at-from-bits .before in
-    let at-u8-at = at-u64-at .before in
+    let at-double-at = at-put-answer .before .before .before in
+    let at-u8-at = at-double-at .before in
     let at-u32-at2 = at-u8-at .before in
     let at-u32-at = at-u32-at2 .before in
     let start = at-u32-at .before .before in
@@ -114,11 +109,11 @@ returns c =
     (at-u32-at .u32-at .result)
     (at-u32-at2 .u32-at2 .result)
     (at-u8-at .u8-at .result)
-    (at-put-answer .put-answer .result) (at-from-bits .from-bits .result)
+    (at-put-answer .put-answer .result) (at-double-at .double-at .result)
     _ _ (c .same .result) (at-u32-at .u32-at .ensures)
     (at-u32-at2 .u32-at2 .ensures)
     (at-u8-at .u8-at .ensures)
-    (at-from-bits .from-bits .ensures ∙ ap (ofBits binary64) (at-u64-at .u64-at .ensures))
+    (at-double-at .double-at .ensures)
     (at-put-answer .put-answer .ensures) (c .same .ensures .0)
     (c .same .ensures .1)
 
@@ -134,9 +129,8 @@ answered-spec =
     cast-m
     add-u8-at
     u8-at-requires
-    add-u64-at
-    u64-at-requires
-    from-bits-requires
+    add-double-at
+    double-at-requires
     slice-aggregate-put-answer
     add-put-answer
     add-put-answer-2

@@ -1,11 +1,7 @@
 -- `test_vectors::walk` meets its contract. Assumes nothing.
-use mathlib.Core.Path.{sym, ap₂, _∙_}
-use mathlib.Core.Logic.{⊎-elim}
-use mathlib.Core.Bool.{true, false}
+use mathlib.Core.Path.{sym, ap₂}
 use Prim.Native.Nat.{ℕ, _-_}
 use native.Mathlib.Omega.{arith}
-use native.Mathlib.Nat.{add-zero}
-use borrow.Author.Tests.{not-true, not-false}
 use borrow.Author.Needs.{needs}
 use lib.ListN.{length}
 use Rattle.test_vectors.proofs.CaseLaws.{next-within, Reached, reached-start, reached-turn, reached-end}
@@ -24,11 +20,8 @@ loop-holds c = reached-start (c .before .args .cases .now)
 agrees-requires : tie.Need-agrees-requires Inv-loop μ-loop
 agrees-requires c κs = search needs
 
-print-line-requires : tie.Need-print-line-requires Inv-loop μ-loop
-print-line-requires c κs = search needs
-
-add-found : tie.Need-add-found Inv-loop μ-loop
-add-found c = search needs
+tell-case-requires : tie.Need-tell-case-requires Inv-loop μ-loop
+tell-case-requires c κs = search needs
 
 add-count : tie.Need-add-count Inv-loop μ-loop
 add-count c = search needs
@@ -45,10 +38,7 @@ loop-less c =
 loop-again : tie.Need-loop-again Inv-loop μ-loop
 loop-again c =
     let l = c .before .before .before .before .loop in
-    ⊎-elim
-    (λ w. reached-turn (c .before .before .before .before .before .before .args .cases .now) (l .at) (l .count) (l .found) false (c .next-place .result) (c .before .if1 .found) (l .inv) (c .before .before .before .loop-test .taken) (sym (c .before .before .agrees .ensures) ∙ not-true _ (w .0 .taken)) (c .next-place .ensures) (w .2))
-    (λ w. reached-turn (c .before .before .before .before .before .before .args .cases .now) (l .at) (l .count) (l .found) true (c .next-place .result) (c .before .if1 .found) (l .inv) (c .before .before .before .loop-test .taken) (sym (c .before .before .agrees .ensures) ∙ not-false _ (w .0 .left)) (c .next-place .ensures) (w .1 ∙ sym (add-zero (l .found))))
-    (c .before .if1 .came)
+    reached-turn _ (l .at) (l .count) (l .found) _ _ _ (l .inv) (c .before .before .before .loop-test .taken) (sym (c .before .before .agrees .ensures)) (c .next-place .ensures) (c .before .tell-case .ensures)
 
 returns : tie.Need-returns Inv-loop μ-loop
 returns c =
@@ -63,8 +53,7 @@ walk-spec =
     μ-loop
     loop-holds
     agrees-requires
-    print-line-requires
-    add-found
+    tell-case-requires
     add-count
     next-place-requires
     loop-less

@@ -1,9 +1,9 @@
--- `test_arithmetic::double_at` meets its contract. Assumes nothing.
+-- `test_report::double_at` meets its contract. Assumes nothing.
 use mathlib.Core.Path.{ap, _∙_}
 use lib.Ieee.{binary64, ofBits}
 use borrow.Author.Needs.{needs}
-use Rattle.test_arithmetic.proofs.double_at.Statement.{statement}
-use Rattle.test_arithmetic.proofs.double_at.Tie as tie
+use Rattle.test_report.proofs.double_at.Statement.{statement}
+use Rattle.test_report.proofs.double_at.Tie as tie
 
 u64-at-requires : tie.Need-u64-at-requires
 u64-at-requires c κs = search needs
