@@ -1,6 +1,6 @@
 -- A word that is not 0, shifted left by its leading zeros: its leading digit is in place (`Lead`). Assumes nothing.
 use mathlib.Core.Path.{_≡_, subst}
-use Prim.Native.Nat.{ℕ, suc, _+_, _*_, _^_, _≤_, _<_, _%_, _-_}
+use Prim.Native.Nat.{ℕ, suc, _+_, _*_, _^_, _≤_, _<_, _%_}
 use native.Mathlib.Nat.{le-trans, le-of-eq, mul-le-mul-right, mod-eq-of-lt}
 use native.Mathlib.Omega.{arith}
 use lib.Pow.{pow-add, shl-lt}

@@ -13,6 +13,7 @@ ghost use lib.Ieee.{binary64};
 ghost use lib.Ieee.Scale.{finite};
 ghost use Rattle.binary64.specs.Fma.{fma};
 ghost use Rattle.mul_add.specs.code.Normal.{Normal};
+use add::Term;
 use add::add;
 use places::ADDEND;
 use places::WORD;
@@ -59,18 +60,19 @@ fn mul_add_finite(a: f64, b: f64, c: f64) -> f64
         let u = normal(x.digits, x.power);
         let v = normal(y.digits, y.power);
         let w = normal(z.digits, z.power);
-        let p = product(u.digits, v.digits);
-        let q = raised(w.digits);
-        add(
-            x.negative != y.negative,
-            p.hi,
-            p.lo,
-            u.power + v.power,
-            z.negative,
-            q.hi,
-            q.lo,
-            w.power + ADDEND,
-        )
+        let i = u.power + v.power;
+        let j = w.power + ADDEND;
+        let p = Term {
+            negative: x.negative != y.negative,
+            words: product(u.digits, v.digits),
+            power: i,
+        };
+        let q = Term {
+            negative: z.negative,
+            words: raised(w.digits),
+            power: j,
+        };
+        add(p, q)
     }
 }
 

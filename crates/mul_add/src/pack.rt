@@ -14,6 +14,7 @@ use super::places::NORMAL_FROM;
 use super::places::SIGN_BIT;
 use super::places::UNIT_PLACE;
 use super::places::WORD;
+use super::wide::Wide;
 use super::wide::shift_right_jam;
 
 // Half of 2 ^ WORD.
@@ -76,7 +77,7 @@ fn pack(negative: bool, m: u64, power: u64) -> f64
     }
 }
 
-// The same of a number of two words: jammed to one, it rounds alike.
+// The same of a number of two words: jammed to one, it rounds alike. The words stand apart, since a struct would be passed through memory.
 pub(crate) fn pack_wide(negative: bool, hi: u64, lo: u64, power: u64) -> f64
     requires { ⌜ power < 2 ^ 31 ⌝ }
     ensures { λ r. ⌜ r ≡ round binary64 negative (wide hi lo * 2 ^ power) (2 ^ scale) ⌝ }
@@ -85,7 +86,7 @@ pub(crate) fn pack_wide(negative: bool, hi: u64, lo: u64, power: u64) -> f64
         pack(negative, lo, power)
     } else {
         let d = WORD - u64::leading_zeros(hi) as u64;
-        let w = shift_right_jam(hi, lo, d);
+        let w = shift_right_jam(Wide { hi, lo }, d);
         pack(negative, w.lo, power + d)
     }
 }

@@ -48,46 +48,50 @@ pub(crate) fn raised(n: u64) -> Wide
 }
 
 // x < y
-pub(crate) fn less(xh: u64, xl: u64, yh: u64, yl: u64) -> bool
-    ensures { λ r. ⌜ r ≡ ltb (wide xh xl) (wide yh yl) ⌝ }
+pub(crate) fn less(x: Wide, y: Wide) -> bool
+    ensures { λ r. ⌜ r ≡ ltb (wide (x .hi) (x .lo)) (wide (y .hi) (y .lo)) ⌝ }
 {
-    if xh == yh { xl < yl } else { xh < yh }
+    if x.hi == y.hi {
+        x.lo < y.lo
+    } else {
+        x.hi < y.hi
+    }
 }
 
 // x + y
-pub(crate) fn sum(xh: u64, xl: u64, yh: u64, yl: u64) -> Wide
-    requires { ⌜ xh < 2 ^ 62 ⌝ }
-    requires { ⌜ yh < 2 ^ 62 ⌝ }
-    ensures { λ r. ⌜ wide (r .hi) (r .lo) ≡ wide xh xl + wide yh yl ⌝ }
+pub(crate) fn sum(x: Wide, y: Wide) -> Wide
+    requires { ⌜ x .hi < 2 ^ 62 ⌝ }
+    requires { ⌜ y .hi < 2 ^ 62 ⌝ }
+    ensures { λ r. ⌜ wide (r .hi) (r .lo) ≡ wide (x .hi) (x .lo) + wide (y .hi) (y .lo) ⌝ }
 {
-    let room = LARGEST - xl;
-    if yl <= room {
+    let room = LARGEST - x.lo;
+    if y.lo <= room {
         Wide {
-            hi: xh + yh,
-            lo: xl + yl,
+            hi: x.hi + y.hi,
+            lo: x.lo + y.lo,
         }
     } else {
         Wide {
-            hi: xh + yh + 1,
-            lo: yl - room - 1,
+            hi: x.hi + y.hi + 1,
+            lo: y.lo - room - 1,
         }
     }
 }
 
 // x - y
-pub(crate) fn difference(xh: u64, xl: u64, yh: u64, yl: u64) -> Wide
-    requires { ⌜ wide yh yl ≤ wide xh xl ⌝ }
-    ensures { λ r. ⌜ wide (r .hi) (r .lo) ≡ wide xh xl - wide yh yl ⌝ }
+pub(crate) fn difference(x: Wide, y: Wide) -> Wide
+    requires { ⌜ wide (y .hi) (y .lo) ≤ wide (x .hi) (x .lo) ⌝ }
+    ensures { λ r. ⌜ wide (r .hi) (r .lo) ≡ wide (x .hi) (x .lo) - wide (y .hi) (y .lo) ⌝ }
 {
-    if yl <= xl {
+    if y.lo <= x.lo {
         Wide {
-            hi: xh - yh,
-            lo: xl - yl,
+            hi: x.hi - y.hi,
+            lo: x.lo - y.lo,
         }
     } else {
         Wide {
-            hi: xh - yh - 1,
-            lo: xl + (LARGEST - yl) + 1,
+            hi: x.hi - y.hi - 1,
+            lo: x.lo + (LARGEST - y.lo) + 1,
         }
     }
 }
@@ -100,43 +104,43 @@ fn stick(lost: bool, n: u64) -> u64
 }
 
 // Shifted right and jammed, by less than a word.
-fn jam_within(hi: u64, lo: u64, d: u64) -> Wide
+fn jam_within(x: Wide, d: u64) -> Wide
     requires { ⌜ d < word ⌝ }
-    ensures { λ r. ⌜ wide (r .hi) (r .lo) ≡ jam (wide hi lo) d ⌝ }
+    ensures { λ r. ⌜ wide (r .hi) (r .lo) ≡ jam (wide (x .hi) (x .lo)) d ⌝ }
 {
     if d == 0 {
-        Wide { hi, lo }
+        x
     } else {
-        let cut = lo >> d;
-        let lost = (cut << d) != lo;
+        let cut = x.lo >> d;
+        let lost = (cut << d) != x.lo;
         Wide {
-            hi: hi >> d,
-            lo: stick(lost, (hi << (WORD - d)) + cut),
+            hi: x.hi >> d,
+            lo: stick(lost, (x.hi << (WORD - d)) + cut),
         }
     }
 }
 
 // The same by a word and d places more.
-fn jam_beyond(hi: u64, lo: u64, d: u64) -> u64
+fn jam_beyond(x: Wide, d: u64) -> u64
     requires { ⌜ d < word ⌝ }
-    ensures { λ r. ⌜ r ≡ jam (wide hi lo) (word + d) ⌝ }
+    ensures { λ r. ⌜ r ≡ jam (wide (x .hi) (x .lo)) (word + d) ⌝ }
 {
-    let cut = hi >> d;
-    let lost = if lo == 0 { (cut << d) != hi } else { true };
+    let cut = x.hi >> d;
+    let lost = if x.lo == 0 { (cut << d) != x.hi } else { true };
     stick(lost, cut)
 }
 
 // Shifted right by d places and jammed: the last digit is set where a digit that is dropped is not 0.
-pub(crate) fn shift_right_jam(hi: u64, lo: u64, d: u64) -> Wide
-    requires { ⌜ 0 < hi ⌝ }
-    ensures { λ r. ⌜ wide (r .hi) (r .lo) ≡ jam (wide hi lo) d ⌝ }
+pub(crate) fn shift_right_jam(x: Wide, d: u64) -> Wide
+    requires { ⌜ 0 < x .hi ⌝ }
+    ensures { λ r. ⌜ wide (r .hi) (r .lo) ≡ jam (wide (x .hi) (x .lo)) d ⌝ }
 {
     if d < WORD {
-        jam_within(hi, lo, d)
+        jam_within(x, d)
     } else if d < 2 * WORD {
         Wide {
             hi: 0,
-            lo: jam_beyond(hi, lo, d - WORD),
+            lo: jam_beyond(x, d - WORD),
         }
     } else {
         Wide { hi: 0, lo: 1 }

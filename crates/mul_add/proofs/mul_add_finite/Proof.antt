@@ -2,7 +2,7 @@
 use mathlib.Core.Path.{_≡_, sym, ap, _∙_, subst}
 use mathlib.Core.Logic.{inl, inr}
 use mathlib.Core.Bool.{Bool}
-use Prim.Native.Nat.{ℕ, _+_, _-_, _*_, _^_, _≤_, _<_}
+use Prim.Native.Nat.{ℕ, _+_, _*_, _^_, _≤_, _<_}
 use native.Mathlib.Nat.{zero-mul, mul-pos}
 use native.Mathlib.Omega.{arith}
 use lib.Dec.{T}
@@ -75,13 +75,7 @@ module _ (h l g o u v i j w k : ℕ) (e : wide h l ≡ u * v) (f : wide g o ≡ 
       (ap (λ (n : ℕ). n * 2 ^ (k + addend) * (unit * unit)) f ∙ addend-same w k Z c)
 
 -- ---- the places on the way, and what is known at each
-module _ (c : tie.After-raised) where
-  abbrev p0 : tie.After-product
-  p0 = c .before
-
-  abbrev n3 : tie.After-normal3
-  n3 = p0 .before
-
+module _ (n3 : tie.After-normal3) where
   abbrev n2 : tie.After-normal2
   n2 = n3 .before
 
@@ -129,38 +123,36 @@ normal-requires-2 c κs = search needs
 normal-requires-3 : tie.Need-normal-requires-3
 normal-requires-3 c κs = search needs
 
+add-i : tie.Need-add-i
+add-i c =
+    let p = c .before .before in
+    record { fits = go _ _ (small-1 p) (small-2 p) }
+  where
+    go : (i j : ℕ) → i < 2 ^ 12 → j < 2 ^ 12 → i + j < 2 ^ 64
+    go i j a b = omega arith
+
+add-j : tie.Need-add-j
+add-j c = record { fits = go _ (small-3 (c .before .before .before)) }
+  where
+    go : (k : ℕ) → k < 2 ^ 12 → k + addend < 2 ^ 64
+    go k a = omega arith
+
 product-requires : tie.Need-product-requires
 product-requires c κs = search needs
 
 raised-requires : tie.Need-raised-requires
 raised-requires c κs = search needs
 
-add-add : tie.Need-add-add
-add-add c =
-    let p = c .before .before .before .before in
-    record { fits = go _ _ (small-1 p) (small-2 p) }
-  where
-    go : (i j : ℕ) → i < 2 ^ 12 → j < 2 ^ 12 → i + j < 2 ^ 64
-    go i j a b = omega arith
-
-add-add-2 : tie.Need-add-add-2
-add-add-2 c =
-    let p = c .before .before .before .before .before in
-    record { fits = go _ (small-3 p) }
-  where
-    go : (k : ℕ) → k < 2 ^ 12 → k + addend < 2 ^ 64
-    go k a = omega arith
-
 add-requires : tie.Need-add-requires
 add-requires c κs =
-    let p = c .before .before .before .before .before in
-    let x = p0 p .product .result in
-    let z = p .raised .result in
+    let p = c .before .before .before .before .before .before .before in
+    let x = c .before .product .result in
+    let z = c .raised .result in
     let u = n1 p .normal .result in
     let v = n2 p .normal2 .result in
-    let w = n3 p .normal3 .result in
-    ready (x .hi) (x .lo) (z .hi) (z .lo) (u .digits) (v .digits) (u .power) (v .power) (w .digits) (w .power) (p0 p .product .ensures) (p .raised .ensures)
-    _ _ _ _ _ _ (n1 p .normal .ensures) (n2 p .normal2 .ensures) (n3 p .normal3 .ensures) (small-1 p) (small-2 p) (small-3 p)
+    let w = p .normal3 .result in
+    ready (x .hi) (x .lo) (z .hi) (z .lo) (u .digits) (v .digits) (u .power) (v .power) (w .digits) (w .power) (c .before .product .ensures) (c .raised .ensures)
+    _ _ _ _ _ _ (n1 p .normal .ensures) (n2 p .normal2 .ensures) (p .normal3 .ensures) (small-1 p) (small-2 p) (small-3 p)
 
 returns : tie.Need-returns
 returns c =
@@ -188,7 +180,8 @@ returns-3 c =
 
 returns-4 : tie.Need-returns-4
 returns-4 c =
-    let p = c .before .before .before .before .before .before in
+    let r = c .before in
+    let p = r .before .before .before .before .before .before .before in
     let s = start p in
     let a = s .args in
     let px = u1 p .unpack .ensures in
@@ -197,14 +190,14 @@ returns-4 c =
     let nx = u1 p .unpack .result .negative in
     let ny = u2 p .unpack2 .result .negative in
     let nz = u3 p .unpack3 .result .negative in
-    let x = p0 p .product .result in
-    let z = p .raised .result in
+    let x = r .before .product .result in
+    let z = r .raised .result in
     let u = n1 p .normal .result in
     let v = n2 p .normal2 .result in
-    let w = n3 p .normal3 .result in
+    let w = p .normal3 .result in
     fma-parts (a .a) (a .b) (a .c) (held-a s) (held-b s) (held-c s) (s .pre .0) (s .pre .1 .0) (s .pre .1 .1) nx ny nz (px .sign) (py .sign) (pz .sign) (c .add .result)
-    (fractions (x .hi) (x .lo) (z .hi) (z .lo) (u .digits) (v .digits) (u .power) (v .power) (w .digits) (w .power) (p0 p .product .ensures) (p .raised .ensures)
-    (unlike nx ny) nz (c .add .result) (c .add .ensures) (sizeOf (a .a)) (sizeOf (a .b)) (sizeOf (a .c)) (from-size _ _ _ _ px _ _ (n1 p .normal .ensures)) (from-size _ _ _ _ py _ _ (n2 p .normal2 .ensures)) (from-size _ _ _ _ pz _ _ (n3 p .normal3 .ensures)))
+    (fractions (x .hi) (x .lo) (z .hi) (z .lo) (u .digits) (v .digits) (u .power) (v .power) (w .digits) (w .power) (r .before .product .ensures) (r .raised .ensures)
+    (unlike nx ny) nz (c .add .result) (c .add .ensures) (sizeOf (a .a)) (sizeOf (a .b)) (sizeOf (a .c)) (from-size _ _ _ _ px _ _ (n1 p .normal .ensures)) (from-size _ _ _ _ py _ _ (n2 p .normal2 .ensures)) (from-size _ _ _ _ pz _ _ (p .normal3 .ensures)))
 
 pub mul-add-finite-spec : {M : Type 1} → statement M
 mul-add-finite-spec =
@@ -216,10 +209,10 @@ mul-add-finite-spec =
     normal-requires
     normal-requires-2
     normal-requires-3
+    add-i
+    add-j
     product-requires
     raised-requires
-    add-add
-    add-add-2
     add-requires
     returns
     returns-2

@@ -36,43 +36,55 @@ module _ (ah al i bh bl j yh yl : ℕ) (A : Ready (wide ah al) i) (B : Ready (wi
     swapped = aligned ∙ sum-comm binary64 s t (wide ah al * 2 ^ i) (wide bh bl * 2 ^ j) (2 ^ scale)
 
 shift-right-jam-requires : tie.Need-shift-right-jam-requires
-shift-right-jam-requires c κs = high-pos (c .before .args .yh) (c .before .args .yl) (c .before .fits .yl .fits) (c .before .pre .1 .lo)
+shift-right-jam-requires c κs =
+    let s = c .before .before .before in
+    let y = s .args .y .words in
+    let lo : y .lo < 2 ^ 64 = search needs in
+    high-pos (y .hi) (y .lo) lo (s .pre .1 .lo)
 
 add-at-requires : tie.Need-add-at-requires
 add-at-requires c κs =
-    let s = c .before .before in
-    let a = s .args in
-    let y = c .shift-right-jam .result in
-    asked (a .xh) (a .xl) (a .i) (a .yh) (a .yl) (a .j) (y .hi) (y .lo) (s .pre .0) (s .pre .1) (c .shift-right-jam .ensures)
+    let s = c .before .before .before .before in
+    let x = s .args .x in
+    let y = s .args .y in
+    let w = c .shift-right-jam .result in
+    asked (x .words .hi) (x .words .lo) (x .power) (y .words .hi) (y .words .lo) (y .power) (w .hi) (w .lo) (s .pre .0) (s .pre .1) (c .shift-right-jam .ensures)
 
 sub-shift-right-jam : tie.Need-sub-shift-right-jam
 sub-shift-right-jam c = search needs
 
 shift-right-jam-requires-2 : tie.Need-shift-right-jam-requires-2
-shift-right-jam-requires-2 c κs = high-pos (c .before .args .xh) (c .before .args .xl) (c .before .fits .xl .fits) (c .before .pre .0 .lo)
+shift-right-jam-requires-2 c κs =
+    let s = c .before .before .before in
+    let x = s .args .x .words in
+    let lo : x .lo < 2 ^ 64 = search needs in
+    high-pos (x .hi) (x .lo) lo (s .pre .0 .lo)
 
 add-at-requires-2 : tie.Need-add-at-requires-2
 add-at-requires-2 c κs =
-    let s = c .before .before in
-    let a = s .args in
-    let x = c .shift-right-jam2 .result in
-    asked (a .yh) (a .yl) (a .j) (a .xh) (a .xl) (a .i) (x .hi) (x .lo) (s .pre .1) (s .pre .0) (c .shift-right-jam2 .ensures)
+    let s = c .before .before .before .before in
+    let x = s .args .x in
+    let y = s .args .y in
+    let w = c .shift-right-jam2 .result in
+    asked (y .words .hi) (y .words .lo) (y .power) (x .words .hi) (x .words .lo) (x .power) (w .hi) (w .lo) (s .pre .1) (s .pre .0) (c .shift-right-jam2 .ensures)
 
 returns : tie.Need-returns
 returns c =
     let b = c .before in
-    let s = b .before .before in
-    let a = s .args in
-    let y = b .shift-right-jam .result in
-    aligned (a .xh) (a .xl) (a .i) (a .yh) (a .yl) (a .j) (y .hi) (y .lo) (s .pre .0) (s .pre .1) (b .shift-right-jam .ensures) (a .s) (a .t) (c .add-at .result) (b .before .if1 .taken) (c .add-at .ensures)
+    let s = b .before .before .before .before in
+    let x = s .args .x in
+    let y = s .args .y in
+    let w = b .shift-right-jam .result in
+    aligned (x .words .hi) (x .words .lo) (x .power) (y .words .hi) (y .words .lo) (y .power) (w .hi) (w .lo) (s .pre .0) (s .pre .1) (b .shift-right-jam .ensures) (x .negative) (y .negative) (c .add-at .result) (b .before .if1 .taken) (c .add-at .ensures)
 
 returns-2 : tie.Need-returns-2
 returns-2 c =
     let b = c .before in
-    let s = b .before .before in
-    let a = s .args in
-    let x = b .shift-right-jam2 .result in
-    swapped (a .yh) (a .yl) (a .j) (a .xh) (a .xl) (a .i) (x .hi) (x .lo) (s .pre .1) (s .pre .0) (b .shift-right-jam2 .ensures) (a .t) (a .s) (c .add-at2 .result) (le-of-lt (b .before .if1 .left)) (c .add-at2 .ensures)
+    let s = b .before .before .before .before in
+    let x = s .args .x in
+    let y = s .args .y in
+    let w = b .shift-right-jam2 .result in
+    swapped (y .words .hi) (y .words .lo) (y .power) (x .words .hi) (x .words .lo) (x .power) (w .hi) (w .lo) (s .pre .1) (s .pre .0) (b .shift-right-jam2 .ensures) (y .negative) (x .negative) (c .add-at2 .result) (le-of-lt (b .before .if1 .left)) (c .add-at2 .ensures)
 
 pub add-spec : {M : Type 1} → statement M
 add-spec =

@@ -1,7 +1,7 @@
 -- `add_at` meets its contract: each branch is a case of `sum`. Assumes nothing.
 use mathlib.Core.Path.{_≡_, refl, sym, ap, _∙_}
 use mathlib.Core.Bool.{false}
-use Prim.Native.Nat.{ℕ, _-_, _*_, _^_, _≤_, _<_}
+use Prim.Native.Nat.{ℕ, _*_, _^_, _≤_, _<_}
 use native.Mathlib.Nat.{le-of-lt, le-antisymm, add-mul, mul-lt-mul-of-pos-right}
 use lib.Pow.{pow-pos}
 use lib.Ieee.{binary64, round, ofBits}
@@ -15,10 +15,10 @@ use Rattle.mul_add.proofs.add.add_at.Statement.{statement}
 use Rattle.mul_add.proofs.add.add_at.Tie as tie
 
 abbrev X : tie.Start → ℕ
-X c = wide (c .args .xh) (c .args .xl)
+X c = wide (c .args .x .hi) (c .args .x .lo)
 
 abbrev Y : tie.Start → ℕ
-Y c = wide (c .args .yh) (c .args .yl)
+Y c = wide (c .args .y .hi) (c .args .y .lo)
 
 -- ---- what the tests say
 smaller : (c : tie.Then2) → X (c .before .before .before) < Y (c .before .before .before)

@@ -7,52 +7,66 @@ use borrow.Author.Needs.{needs}
 use Rattle.mul_add.proofs.wide.difference.Statement.{statement}
 use Rattle.mul_add.proofs.wide.difference.Tie as tie
 
-under : (c : tie.Else1) → c .before .args .yh < c .before .args .xh
+-- the low words
+x-low : (c : tie.Start) → c .args .x .lo < 2 ^ 64
+x-low c = search needs
+
+y-low : (c : tie.Start) → c .args .y .lo < 2 ^ 64
+y-low c = search needs
+
+under : (c : tie.Else1) → let a = c .before .before .before .args in a .y .hi < a .x .hi
 under c =
-    let a = c .before .args in
-    borrow-lt (a .xh) (a .xl) (a .yh) (a .yl) (c .before .pre) (c .if1 .left)
+    let s = c .before .before .before in
+    let a = s .args in
+    borrow-lt (a .x .hi) (a .x .lo) (a .y .hi) (a .y .lo) (s .pre) (c .if1 .left)
 
 -- the low word, and each step to it, fits
 room : (x y : ℕ) → x < y → y < 2 ^ 64 → x + (2 ^ 64 - 1 - y) + 1 < 2 ^ 64
 room x y h k = omega arith
 
+low : (c : tie.Else1) → let a = c .before .before .before .args in a .x .lo + (2 ^ 64 - 1 - a .y .lo) + 1 < 2 ^ 64
+low c = let s = c .before .before .before in room (s .args .x .lo) (s .args .y .lo) (c .if1 .left) (y-low s)
+
+sub-t5 : tie.Need-sub-t5
+sub-t5 c = search needs
+
 sub-t7 : tie.Need-sub-t7
-sub-t7 c = search needs
+sub-t7 c = le-of-lt (under (c .before .before))
 
-sub-t9 : tie.Need-sub-t9
-sub-t9 c = le-of-lt (under c)
-
-sub-t10 : tie.Need-sub-t10
-sub-t10 c = go (c .before .args .xh) (c .before .args .yh) (under c)
+sub-t8 : tie.Need-sub-t8
+sub-t8 c = go _ _ (under (c .before .before))
   where
     go : (x y : ℕ) → y < x → 1 ≤ x - y
     go x y h = omega arith
 
-sub-t11 : tie.Need-sub-t11
-sub-t11 c = go (c .before .args .yl) (c .before .fits .yl .fits)
+sub-t9 : tie.Need-sub-t9
+sub-t9 c = go _ (y-low (c .before .before .before .before .before .before))
   where
     go : (y : ℕ) → y < 2 ^ 64 → y ≤ 2 ^ 64 - 1
     go y h = omega arith
 
-add-t12 : tie.Need-add-t12
-add-t12 c = record { fits = go (c .before .args .xl) (c .before .args .yl) (room (c .before .args .xl) (c .before .args .yl) (c .if1 .left) (c .before .fits .yl .fits)) }
+add-t10 : tie.Need-add-t10
+add-t10 c = record { fits = go _ _ (low (c .before .before .before .before)) }
   where
     go : (x y : ℕ) → x + (2 ^ 64 - 1 - y) + 1 < 2 ^ 64 → x + (2 ^ 64 - 1 - y) < 2 ^ 64
     go x y h = omega arith
 
-add-t13 : tie.Need-add-t13
-add-t13 c = record { fits = room (c .before .args .xl) (c .before .args .yl) (c .if1 .left) (c .before .fits .yl .fits) }
+add-t11 : tie.Need-add-t11
+add-t11 c = record { fits = low (c .before .before .before .before) }
 
 returns : tie.Need-returns
 returns c =
-    let a = c .before .args in
-    no-borrow (a .xh) (a .xl) (a .yh) (a .yl) (no-borrow-le (a .xh) (a .xl) (a .yh) (a .yl) (c .before .fits .xl .fits) (c .before .pre)) (c .if1 .taken)
+    let b = c .before .before .before .before in
+    let s = b .before .before .before in
+    let a = s .args in
+    no-borrow (a .x .hi) (a .x .lo) (a .y .hi) (a .y .lo) (no-borrow-le (a .x .hi) (a .x .lo) (a .y .hi) (a .y .lo) (x-low s) (s .pre)) (b .if1 .taken)
 
 returns-2 : tie.Need-returns-2
 returns-2 c =
-    let a = c .before .args in
-    borrowed (a .xh) (a .xl) (a .yh) (a .yl) (under c) (c .before .fits .yl .fits)
+    let b = c .before .before .before .before in
+    let s = b .before .before .before in
+    let a = s .args in
+    borrowed (a .x .hi) (a .x .lo) (a .y .hi) (a .y .lo) (under b) (y-low s)
 
 pub difference-spec : {M : Type 1} → statement M
-difference-spec =
-    tie.close (tie.spec sub-t7 sub-t9 sub-t10 sub-t11 add-t12 add-t13 returns returns-2)
+difference-spec = tie.close (tie.spec sub-t5 sub-t7 sub-t8 sub-t9 add-t10 add-t11 returns returns-2)

@@ -1,6 +1,6 @@
 -- `shift_right_jam` meets its contract. Assumes nothing.
 use mathlib.Core.Path.{_≡_, ap, _∙_}
-use Prim.Native.Nat.{ℕ, _+_, _-_, _≤_}
+use Prim.Native.Nat.{ℕ, _+_, _-_, _^_, _≤_, _<_}
 use native.Mathlib.Omega.{arith}
 use Rattle.mul_add.specs.code.Places.{word}
 use Rattle.mul_add.specs.code.Wide.{wide}
@@ -26,7 +26,7 @@ returns-2 : tie.Need-returns-2
 returns-2 c =
     let e = c .before .before in
     let a = e .before .args in
-    low (c .jam-beyond .result) ∙ c .jam-beyond .ensures ∙ ap (λ (d : ℕ). jam (wide (a .hi) (a .lo)) d) (back (a .d) (e .if1 .left))
+    low (c .jam-beyond .result) ∙ c .jam-beyond .ensures ∙ ap (λ (d : ℕ). jam (wide (a .x .hi) (a .x .lo)) d) (back (a .d) (e .if1 .left))
   where
     low : (x : ℕ) → wide 0 x ≡ x
     low x = omega arith
@@ -38,7 +38,9 @@ returns-3 : tie.Need-returns-3
 returns-3 c =
     let s = c .before .before in
     let a = s .args in
-    jam-all (a .hi) (a .lo) (a .d) (s .pre) (s .fits .hi .fits) (s .fits .lo .fits) (c .if2 .left)
+    let hi : a .x .hi < 2 ^ 64 = search needs in
+    let lo : a .x .lo < 2 ^ 64 = search needs in
+    jam-all (a .x .hi) (a .x .lo) (a .d) (s .pre) hi lo (c .if2 .left)
 
 pub shift-right-jam-spec : {M : Type 1} → statement M
 shift-right-jam-spec =
