@@ -201,7 +201,7 @@ fn convert_reference(
     requires { ⌜ entry .count ≤ 16 ⌝ }
     ensures { λ r. ⌜ Values (now (b .entry)) s entry (afterChecks (converter .policy) (converter .d) (referenceAt (now (b .entry)) s)) r ⌝ }
 {
-    match transform::write_transformation(s.degrees, s.magnification, s.reflection) {
+    match transform::encode_transformation(s.degrees, s.magnification, s.reflection) {
         Transform::Refused { refusal } => ReferenceValues::Refused { refusal },
         Transform::Encoded { strans } => place_reference(converter, b, s, strans, entry),
     }

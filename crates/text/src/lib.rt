@@ -66,7 +66,7 @@ fn convert_text(
     requires { ⌜ entry .count < 4294967294 ⌝ }
     ensures { λ r. ⌜ readyOf (now (b .entry)) text r ≡ run stopped entry (afterChecks (converter .policy) (converter .d) (textAt (now (b .entry)) text)) ready ⌝ }
 {
-    match transform::write_transformation(text.degrees, text.magnification, text.reflection) {
+    match transform::encode_transformation(text.degrees, text.magnification, text.reflection) {
         Transform::Refused { refusal } => TextValues::Refused { refusal },
         Transform::Encoded { strans } => {
             match coordinate::convert_point(

@@ -42,7 +42,7 @@ const STRANS_LENGTH: usize = 6;
 const REAL_LENGTH: usize = 12;
 
 // `encode_gds_real8`.
-fn write_real(x: f64) -> Real
+fn encode_real(x: f64) -> Real
     ensures { λ r. ⌜ realOf r ≡ writeReal x ⌝ }
 {
     match Real8::encode(x) {
@@ -56,7 +56,7 @@ fn write_real(x: f64) -> Real
 }
 
 // MAG if not 1; what is not above 0 is refused, minus infinity as a real that is not finite.
-fn write_magnification(magnification: f64) -> Real
+fn encode_magnification(magnification: f64) -> Real
     ensures { λ r. ⌜ realOf r ≡ writeMagnification magnification ⌝ }
 {
     if magnification == 1.0 {
@@ -69,17 +69,17 @@ fn write_magnification(magnification: f64) -> Real
             };
         }
     }
-    write_real(magnification)
+    encode_real(magnification)
 }
 
 // ANGLE if not 0, of either sign.
-fn write_angle(degrees: f64) -> Real
+fn encode_angle(degrees: f64) -> Real
     ensures { λ r. ⌜ realOf r ≡ writeAngle degrees ⌝ }
 {
     if degrees == 0.0 {
         return Real::Absent;
     }
-    write_real(degrees)
+    encode_real(degrees)
 }
 
 // The angle beside a magnification that was not refused.
@@ -110,13 +110,13 @@ fn with_angle(reflection: bool, scaled: bool, magnification: u64, angle: Real) -
 }
 
 // The checks of `write_transformation_to_file`, magnification before degrees.
-pub fn write_transformation(degrees: f64, magnification: f64, reflection: bool) -> Transform
+pub fn encode_transformation(degrees: f64, magnification: f64, reflection: bool) -> Transform
     ensures { λ r. ⌜ transformOf r ≡ writeTransform degrees magnification reflection ⌝ }
 {
-    match write_magnification(magnification) {
+    match encode_magnification(magnification) {
         Real::Refused { refusal } => Transform::Refused { refusal },
-        Real::Absent => with_angle(reflection, false, 0, write_angle(degrees)),
-        Real::Pattern { pattern } => with_angle(reflection, true, pattern, write_angle(degrees)),
+        Real::Absent => with_angle(reflection, false, 0, encode_angle(degrees)),
+        Real::Pattern { pattern } => with_angle(reflection, true, pattern, encode_angle(degrees)),
     }
 }
 

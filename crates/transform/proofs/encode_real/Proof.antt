@@ -1,8 +1,8 @@
 -- The encoder refuses, or gives a pattern. Assumes nothing.
 use Rattle.transform.proofs.TransformLaws.{real-refused, real-encoded}
 use borrow.Author.Needs.{needs}
-use Rattle.transform.proofs.write_real.Statement.{statement}
-use Rattle.transform.proofs.write_real.Tie as tie
+use Rattle.transform.proofs.encode_real.Statement.{statement}
+use Rattle.transform.proofs.encode_real.Tie as tie
 
 encode-requires : tie.Need-encode-requires
 encode-requires c κs = search needs
@@ -19,5 +19,5 @@ returns c = real-refused (c .before .before .before .args .x) (c .before .before
 returns-2 : tie.Need-returns-2
 returns-2 c = real-encoded (c .before .before .before .before .args .x) (c .before .before .before .encode .result) (c .before .before .before .encode .ensures) (c .before .real .given .0 .0) (c .before .real .given .1)
 
-pub write-real-spec : {M : Type 1} → statement M
-write-real-spec = tie.close (tie.spec encode-requires enum-told enum-known-real returns returns-2)
+pub encode-real-spec : {M : Type 1} → statement M
+encode-real-spec = tie.close (tie.spec encode-requires enum-told enum-known-real returns returns-2)
