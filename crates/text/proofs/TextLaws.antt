@@ -150,6 +150,9 @@ module _ (b : List ℕ) (s : TextPlaces) (inside : stringEnd b (s .string) ≤ l
   unfolding textAt
   string-long = length-string b (s .string) inside
 
+  pub read-long : (read : List ℕ) → read ≡ stringAt b (s .string) → length read ≡ numberAt 2 b (s .string)
+  read-long read h = ap length h ∙ length-string b (s .string) inside
+
   pub length-text-of : (t : Strans) (x y : ℤ) → length (textBytes (textOf b s t x y)) ≡ sizeOf (stransLength t) (numberAt 2 b (s .string))
   length-text-of t x y =
       ap (λ (w : SaidText). length (textBytes w)) (sym (said-of b s t x y))

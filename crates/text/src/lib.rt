@@ -1,9 +1,9 @@
 // A text (`write_text_with_converter` of write/mod.rs), from its places in the block: its checks and conversions, and then its records.
 ghost use mathlib.Core.Path.{_≡_};
-ghost use Prim.Native.Nat.{_+_, _*_, _≤_, _<_};
+ghost use Prim.Native.Nat.{_+_, _*_, _≤_};
 ghost use lib.ListN.{length};
 ghost use Rattle.big_endian.specs.Big.{numberAt};
-ghost use Rattle.conversion.specs.code.Fold.{run};
+ghost use Rattle.conversion.specs.code.Fold.{Spare, run};
 ghost use Rattle.cell.specs.Limits.{maxStringLength};
 ghost use Rattle.cell.specs.Write.{writeText};
 ghost use Rattle.forms.specs.code.Place.{stringEnd};
@@ -11,7 +11,7 @@ ghost use Rattle.forms.specs.code.Forms.{textAt, TextIn};
 ghost use Rattle.transform.specs.code.Strans.{stransLength};
 ghost use Rattle.records.specs.code.Bytes.{Placed};
 ghost use Rattle.steps.specs.code.Ready.{stopped, ready};
-ghost use Rattle.steps.specs.code.Steps.{Measures, Succeeds, Writes};
+ghost use Rattle.steps.specs.code.Steps.{maxDeviations, Measures, Succeeds, Writes};
 ghost use Rattle.text.specs.code.Text.{sizeOf, textBytes, textLength, afterChecks, textOf, readyOf};
 use conversion::CoordinateConverter;
 use conversion::Entry;
@@ -22,9 +22,6 @@ use steps::Measured;
 use steps::Written;
 use transform::Strans;
 use transform::Transform;
-
-// The highest layer.
-const MAX_LAYER: u16 = 255;
 
 // The longest string of a text.
 const MAX_STRING_LENGTH: usize = 512;
@@ -63,7 +60,7 @@ fn convert_text(
     entry: Entry,
 ) -> TextValues
     requires { ⌜ TextIn (now b) text ⌝ }
-    requires { ⌜ entry .count < 4294967294 ⌝ }
+    requires { ⌜ Spare 2 entry ⌝ }
     ensures { λ r. ⌜ readyOf (now (b .entry)) text r ≡ run stopped entry (afterChecks (converter .policy) (converter .d) (textAt (now (b .entry)) text)) ready ⌝ }
 {
     match transform::encode_transformation(text.degrees, text.magnification, text.reflection) {
@@ -97,10 +94,10 @@ fn text_values(
     entry: Entry,
 ) -> TextValues
     requires { ⌜ TextIn (now b) text ⌝ }
-    requires { ⌜ entry .count < 4294967294 ⌝ }
+    requires { ⌜ Spare 2 entry ⌝ }
     ensures { λ r. ⌜ readyOf (now (b .entry)) text r ≡ run stopped entry (writeText (converter .policy) (converter .d) (textAt (now (b .entry)) text)) ready ⌝ }
 {
-    if text.layer > MAX_LAYER {
+    if !validation::validate_layer(text.layer) {
         return TextValues::Refused {
             refusal: Refusal::LayerOrType,
         };
@@ -121,7 +118,7 @@ pub fn measure_text(
     entry: Entry,
 ) -> Measured
     requires { ⌜ TextIn (now b) text ⌝ }
-    requires { ⌜ entry .count < 4294967294 ⌝ }
+    requires { ⌜ Spare maxDeviations entry ⌝ }
     ensures { λ r. ⌜ Measures textBytes entry (writeText (converter .policy) (converter .d) (textAt (now (b .entry)) text)) r ⌝ }
 {
     match text_values(converter, b, text, entry) {
@@ -148,23 +145,15 @@ fn presentation(vertical: u8, horizontal: u8) -> u16
     4 * (vertical as u16) + horizontal as u16
 }
 
-// TEXT, LAYER, TEXTTYPE, PRESENTATION, the transform, XY and STRING, at a place.
-fn put_records_at(
-    out: &mut [u8],
-    at: usize,
-    b: &[u8],
-    text: TextPlaces,
-    strans: Strans,
-    x: i32,
-    y: i32,
-) -> usize
+// TEXT, LAYER, TEXTTYPE, PRESENTATION, the transform, XY and STRING.
+fn put_records(out: &mut [u8], b: &[u8], text: TextPlaces, strans: Strans, x: i32, y: i32) -> usize
     requires { ⌜ stringEnd (now b) (text .string) ≤ length (now b) ⌝ }
     requires { ⌜ numberAt 2 (now b) (text .string) ≤ maxStringLength ⌝ }
-    requires { ⌜ at + sizeOf (stransLength strans) (numberAt 2 (now b) (text .string)) ≤ length (now out) ⌝ }
-    ensures { λ r. ⌜ Placed (textBytes (textOf (now (b .entry)) text strans x y)) (sizeOf (stransLength strans) (numberAt 2 (now (b .entry)) (text .string))) (now (out .entry)) (now (out .exit)) at r ⌝ }
+    requires { ⌜ sizeOf (stransLength strans) (numberAt 2 (now b) (text .string)) ≤ length (now out) ⌝ }
+    ensures { λ r. ⌜ Placed (textBytes (textOf (now (b .entry)) text strans x y)) (sizeOf (stransLength strans) (numberAt 2 (now (b .entry)) (text .string))) (now (out .entry)) (now (out .exit)) 0 r ⌝ }
 {
     let bits = presentation(text.vertical, text.horizontal);
-    let a1 = records::put_empty_at(out, at, records::TEXT);
+    let a1 = records::put_empty_at(out, 0, records::TEXT);
     let a2 = records::put_word_at(out, a1, records::LAYER, records::TWO_BYTE, text.layer);
     let a3 = records::put_word_at(out, a2, records::TEXTTYPE, records::TWO_BYTE, text.texttype);
     let a4 = records::put_word_at(out, a3, records::PRESENTATION, records::BIT_ARRAY, bits);
@@ -173,31 +162,30 @@ fn put_records_at(
     records::put_string_at(out, a6, records::STRING, forms::string_at(b, text.string))
 }
 
-// The records from a place of the output on; every value is known before the first byte is written.
+// The records at the start of the part that is lent; every value is known before the first byte is written.
 pub fn put_text(
     converter: CoordinateConverter,
     b: &[u8],
     text: TextPlaces,
     out: &mut [u8],
-    start: usize,
     entry: Entry,
 ) -> Written
     requires { ⌜ TextIn (now b) text ⌝ }
     requires { ⌜ Succeeds (writeText (converter .policy) (converter .d) (textAt (now b) text)) ⌝ }
-    requires { ⌜ entry .count < 4294967294 ⌝ }
-    requires { ⌜ start + textLength (now b) text ≤ length (now out) ⌝ }
-    ensures { λ r. ⌜ Writes textBytes entry (writeText (converter .policy) (converter .d) (textAt (now (b .entry)) text)) start (now (out .entry)) (now (out .exit)) r ⌝ }
+    requires { ⌜ Spare maxDeviations entry ⌝ }
+    requires { ⌜ textLength (now b) text ≤ length (now out) ⌝ }
+    ensures { λ r. ⌜ Writes textBytes entry (writeText (converter .policy) (converter .d) (textAt (now (b .entry)) text)) 0 (now (out .entry)) (now (out .exit)) r ⌝ }
 {
     match convert_text(converter, b, text, entry) {
         // Never: the text is not refused.
-        TextValues::Refused { refusal: _ } => Written { to: start, entry },
+        TextValues::Refused { refusal: _ } => Written { to: 0, entry },
         TextValues::Ready {
             strans,
             x,
             y,
             entry: e,
         } => Written {
-            to: put_records_at(out, start, b, text, strans, x, y),
+            to: put_records(out, b, text, strans, x, y),
             entry: e,
         },
     }

@@ -3,16 +3,21 @@
 -- only a step that is not refused is written. Assumes nothing.
 use mathlib.Core.Path.{_≡_}
 use mathlib.Core.List.{List}
-use Prim.Native.Nat.{ℕ}
+use Prim.Native.Nat.{ℕ, _+_, _*_}
 use lib.ListN.{length}
 use Rattle.conversion.specs.declared.Deviation.{Deviation}
 use Rattle.conversion.specs.declared.Entry.{Entry}
 use Rattle.conversion.specs.Made.{Made, made}
 use Rattle.conversion.specs.code.Fold.{notedAll, run}
 use Rattle.big_endian.specs.Buffer.{WroteAt}
+use Rattle.cell.specs.Limits.{maxPoints}
 use Rattle.steps.specs.declared.Measured.{Measured}
 use Rattle.steps.specs.declared.Measured.the-variants as M
 use Rattle.steps.specs.declared.Written.{Written}
+
+-- the most deviations of one element: a path's three lengths, and two coordinates for each of its points
+abbrev pub maxDeviations : ℕ
+maxDeviations = 3 + 2 * maxPoints
 
 -- ---- measuring
 

@@ -12,7 +12,7 @@ use borrow.Author.Needs.{needs}
 use Rattle.text.proofs.measure_text.Statement.{statement}
 use Rattle.text.proofs.measure_text.Tie as tie
 
-short : (k : tie.After-known-told2) → numberAt 2 (k .before .before .before .before .before .args .b .now) (k .before .before .before .before .before .args .text .string) ≤ maxStringLength
+short : (k : tie.After-known-told2) → let a = k .before .before .before .before .before .args in numberAt 2 (a .b .now) (a .text .string) ≤ maxStringLength
 short k =
     let s = k .before .before .before .before .before in
     let a = s .args in

@@ -1,6 +1,6 @@
 -- `text::put_text` meets its contract: the values are ready, since nothing is refused, and the records are written. Assumes nothing.
 use mathlib.Core.Path.{_≡_, sym, ap, _∙_, subst}
-use Prim.Native.Nat.{ℕ, _+_, _≤_}
+use Prim.Native.Nat.{ℕ, _≤_}
 use lib.ListN.{length}
 use mir.Syntax.{w32}
 use mir.Val.{SFits}
@@ -17,7 +17,7 @@ use Rattle.text.proofs.put_text.Statement.{statement}
 use Rattle.text.proofs.put_text.Tie as tie
 
 -- the values are the definition's
-is : (k : tie.After-convert-text) → readyOf (k .before .before .before .args .b .now) (k .before .before .before .args .text) (k .convert-text .result) ≡ run stopped (k .before .before .before .args .entry) (writeText (k .before .before .before .args .converter .policy) (k .before .before .before .args .converter .d) (textAt (k .before .before .before .args .b .now) (k .before .before .before .args .text))) ready
+is : (k : tie.After-convert-text) → let a = k .before .before .before .args in readyOf (a .b .now) (a .text) (k .convert-text .result) ≡ run stopped (a .entry) (writeText (a .converter .policy) (a .converter .d) (textAt (a .b .now) (a .text))) ready
 is k =
     let a = k .before .before .before .args in
     ready-past (a .converter .policy) (a .converter .d) (textAt (a .b .now) (a .text)) (a .entry) _ (k .before .before .before .pre .1 .0) (k .convert-text .ensures)
@@ -31,16 +31,17 @@ enum-told c = search needs
 enum-known-strans : tie.Need-enum-known-strans
 enum-known-strans c = search needs
 
-put-records-at-requires : tie.Need-put-records-at-requires
-put-records-at-requires c κs =
-    let s = c .before .before .before .before .before .before .before in
+put-records-requires : tie.Need-put-records-requires
+put-records-requires c κs =
+    let at-convert-text = c .before .before .before .before in
+    let s = at-convert-text .before .before .before in
     let a = s .args in
     let g = c .before .before .strans .given in
-    let r = c .before .before .before .before .convert-text .result in
-    let i = is (c .before .before .before .before) in
+    let r = at-convert-text .convert-text .result in
+    let i = is at-convert-text in
     let l = ready-length (a .b .now) (a .text) (s .pre .0 .string-in) (a .converter .policy) (a .converter .d) (a .entry) r i (g .0 .0) (g .0 .1 .0) (g .0 .1 .1 .0) (g .0 .1 .1 .1 .0) (g .1) in
     let m = ready-short (a .b .now) (a .text) (s .pre .0 .string-in) (a .converter .policy) (a .converter .d) (a .entry) r i (g .0 .0) (g .0 .1 .0) (g .0 .1 .1 .0) (g .0 .1 .1 .1 .0) (g .1) in
-    (s .pre .0 .string-in, (m, subst (λ (n : ℕ). a .start + n ≤ length (a .out .now)) (sym l) (s .pre .1 .1 .1)))
+    (s .pre .0 .string-in, (m, subst (λ (n : ℕ). n ≤ length (a .out .now)) (sym l) (s .pre .1 .1 .1)))
 
 returns : tie.Need-returns
 returns c =
@@ -53,14 +54,15 @@ same-length c = search needs
 
 returns-2 : tie.Need-returns-2
 returns-2 c =
-    let a = c .before .before .before .before .before .before .before .before .before .before .args in
+    let at-convert-text = c .before .before .before .before .before .before .before in
+    let a = at-convert-text .before .before .before .args in
     let v = c .before .before .before .before .before .strans .given in
     let x = v .0 .1 .0 in
     let y = v .0 .1 .1 .0 in
     let f : SFits w32 x = search needs in
     let h : SFits w32 y = search needs in
-    let p = same-point (a .b .now) (a .text) (v .0 .0) x y _ _ (toZ-ofZ w32 x f) (toZ-ofZ w32 y h) (c .before .before .put-records-at .ensures) in
-    write-ready (a .entry) _ (readyOf (a .b .now) (a .text) (c .before .before .before .before .before .before .before .convert-text .result)) (is (c .before .before .before .before .before .before .before)) textBytes (textOf (a .b .now) (a .text) (v .0 .0) x y) (v .0 .1 .1 .1 .0) _ (ap (readyOf (a .b .now) (a .text)) (v .1)) (p .wrote)
+    let p = same-point (a .b .now) (a .text) (v .0 .0) x y _ _ (toZ-ofZ w32 x f) (toZ-ofZ w32 y h) (c .before .before .put-records .ensures) in
+    write-ready (a .entry) _ (readyOf (a .b .now) (a .text) (at-convert-text .convert-text .result)) (is at-convert-text) textBytes (textOf (a .b .now) (a .text) (v .0 .0) x y) (v .0 .1 .1 .1 .0) _ (ap (readyOf (a .b .now) (a .text)) (v .1)) (p .wrote)
 
 pub put-text-spec : {M : Type 1} → statement M
 put-text-spec =
@@ -69,7 +71,7 @@ put-text-spec =
     convert-text-requires
     enum-told
     enum-known-strans
-    put-records-at-requires
+    put-records-requires
     returns
     same-length
     returns-2)

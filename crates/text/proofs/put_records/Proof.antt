@@ -1,19 +1,11 @@
 -- Each record in turn. Assumes nothing.
-use mathlib.Core.Path.{_≡_, ap, _∙_}
 use native.Mathlib.Omega.{arith}
-use lib.ListN.{length}
 use mir.Syntax.{w32}
 use mir.ValLaws.{toZ-ofZ}
-use Rattle.big_endian.specs.Big.{numberAt}
-use Rattle.forms.specs.code.Forms.{textAt}
-use Rattle.text.proofs.TextLaws.{text-placed, string-long}
+use Rattle.text.proofs.TextLaws.{text-placed, read-long}
 use borrow.Author.Needs.{needs}
-use Rattle.text.proofs.put_records_at.Statement.{statement}
-use Rattle.text.proofs.put_records_at.Tie as tie
-
-long : (k : tie.After-string-at) → length (k .string-at .result .now) ≡ numberAt 2 (k .before .before .before .before .before .before .before .before .before .before .before .before .before .before .before .before .before .before .before .before .before .before .before .before .before .before .before .before .before .args .b .now) (k .before .before .before .before .before .before .before .before .before .before .before .before .before .before .before .before .before .before .before .before .before .before .before .before .before .before .before .before .before .args .text .string)
-unfolding textAt
-long k = ap length (k .string-at .ensures) ∙ string-long (k .before .before .before .before .before .before .before .before .before .before .before .before .before .before .before .before .before .before .before .before .before .before .before .before .before .before .before .before .before .args .b .now) (k .before .before .before .before .before .before .before .before .before .before .before .before .before .before .before .before .before .before .before .before .before .before .before .before .before .before .before .before .before .args .text) (k .before .before .before .before .before .before .before .before .before .before .before .before .before .before .before .before .before .before .before .before .before .before .before .before .before .before .before .before .before .pre .0)
+use Rattle.text.proofs.put_records.Statement.{statement}
+use Rattle.text.proofs.put_records.Tie as tie
 
 presentation-requires : tie.Need-presentation-requires
 presentation-requires c κs = search needs
@@ -38,7 +30,13 @@ put-xy-at-requires c κs = search needs
 
 string-at-requires : tie.Need-string-at-requires
 string-at-requires c κs =
-    let start = c .before .before .before .before .before .before .before .before .before .before .before .before .before .before .before .before .before .before .before .before .before .before .before .before .before .before .before .before in
+    let at-put-xy-at = c .before .before .before in
+    let at-put-strans-at = at-put-xy-at .before .before .before .before in
+    let at-put-word-at3 = at-put-strans-at .before .before .before .before in
+    let at-put-word-at2 = at-put-word-at3 .before .before .before .before in
+    let at-put-word-at = at-put-word-at2 .before .before .before .before in
+    let at-put-empty-at = at-put-word-at .before .before .before .before in
+    let start = at-put-empty-at .before .before .before .before .before in
     start .pre .0
 
 put-string-at-requires : tie.Need-put-string-at-requires
@@ -50,7 +48,7 @@ put-string-at-requires c κs =
     let at-put-word-at = at-put-word-at2 .before .before .before .before in
     let at-put-empty-at = at-put-word-at .before .before .before .before in
     let start = at-put-empty-at .before .before .before .before .before in
-    let n = long c in
+    let n = read-long (start .args .b .now) (start .args .text) (start .pre .0) (c .string-at .result .now) (c .string-at .ensures) in
     let p = start .pre .1 .0 in
     let q = start .pre .1 .1 in
     let e1 = at-put-empty-at .put-empty-at .ensures .end in
@@ -80,16 +78,16 @@ returns c =
     let at-put-word-at = at-put-word-at2 .before .before .before .before in
     let at-put-empty-at = at-put-word-at .before .before .before .before in
     let at-presentation = at-put-empty-at .before .before in
-    let earlier = at-presentation .before .before .before in
-    let s = earlier in
-    let a = s .args in
-    text-placed (a .b .now) (a .text) (a .strans) (a .x) (a .y) _ _ (at-presentation .presentation .result) _ (at-string-at .string-at .result .now)
-    (toZ-ofZ w32 (a .x) (s .fits .x)) (toZ-ofZ w32 (a .y) (s .fits .y)) (at-presentation .presentation .ensures) (at-string-at .string-at .ensures) (long (at-string-at))
+    let start = at-presentation .before .before .before in
+    let a = start .args in
+    let read = at-string-at .string-at in
+    text-placed (a .b .now) (a .text) (a .strans) (a .x) (a .y) _ _ (at-presentation .presentation .result) _ (read .result .now)
+    (toZ-ofZ w32 (a .x) (start .fits .x)) (toZ-ofZ w32 (a .y) (start .fits .y)) (at-presentation .presentation .ensures) (read .ensures) (read-long (a .b .now) (a .text) (start .pre .0) (read .result .now) (read .ensures))
     (at-put-empty-at .put-empty-at .ensures) (at-put-word-at .put-word-at .ensures) (at-put-word-at2 .put-word-at2 .ensures) (at-put-word-at3 .put-word-at3 .ensures) (at-put-strans-at .put-strans-at .ensures)
     (at-put-xy-at .put-xy-at .ensures) (c .before .before .put-string-at .ensures)
 
-pub put-records-at-spec : {M : Type 1} → statement M
-put-records-at-spec =
+pub put-records-spec : {M : Type 1} → statement M
+put-records-spec =
     tie.close
     (tie.spec
     presentation-requires
