@@ -37,7 +37,7 @@ use Rattle.coordinate.specs.declared.Pointed.the-variants as P
 use Rattle.coordinate.specs.code.Coordinate.{valued, ValueGrown, GivesValue, pointed}
 use Rattle.coordinate.proofs.ValueLaws.{value-stops, value-goes-on}
 use Rattle.array.specs.declared.Converted.the-variants as C
-use Rattle.array.specs.code.Corners.{converted, Converts, endOf, Ends}
+use Rattle.array.specs.code.Corners.{converted, GivesArrayPoint, endOf, Ends}
 
 -- ---- physical values
 
@@ -111,17 +111,17 @@ module _ (policy : GdsRoundingPolicy) (d : Float) (f : ℕ) (p : Point Float) (e
   abbrev point-of : ℤ → ℤ → Point ℤ
   point-of x y = record { x = x; y = y }
 
-  pub point-stops : (x : Refusal) → r ≡ G.Refused x → Converts e p (writePhysical policy d f p) (C.Refused x)
+  pub point-stops : (x : Refusal) → r ≡ G.Refused x → GivesArrayPoint e p (writePhysical policy d f p) (C.Refused x)
   unfolding writePhysical
   point-stops x i = record { is = x-stops C.Refused e point-x point-y point-of (converted p) r h x i; grown = tt }
 
   module _ (x : ℤ) (e1 : Entry) (i : r ≡ G.At x e1) (s : Valued) (j : GivesValue e1 (convertPhysical policy d (spot f yAxis 0) (p .y)) s) where
-    pub point-stops-at-y : (y : Refusal) → s ≡ G.Refused y → Converts e p (writePhysical policy d f p) (C.Refused y)
+    pub point-stops-at-y : (y : Refusal) → s ≡ G.Refused y → GivesArrayPoint e p (writePhysical policy d f p) (C.Refused y)
     unfolding writePhysical
     point-stops-at-y y l = record { is = y-stops C.Refused e point-x point-y point-of (converted p) r h x e1 i s j y l; grown = tt }
 
     pub point-made : (y : ℤ) (e2 : Entry) → s ≡ G.At y e2 → (z w : ℤ) → z ≡ x → w ≡ y
-        → Converts e p (writePhysical policy d f p) (C.At (record { px = p .x; py = p .y; x = z; y = w }) e2)
+        → GivesArrayPoint e p (writePhysical policy d f p) (C.At (record { px = p .x; py = p .y; x = z; y = w }) e2)
     unfolding writePhysical
     point-made y e2 l z w a b =
         record {

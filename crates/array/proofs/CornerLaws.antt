@@ -31,7 +31,7 @@ use Rattle.array.specs.declared.Converted.the-variants as C
 use Rattle.array.specs.declared.Corners.{Corners}
 use Rattle.array.specs.declared.Array.{Array}
 use Rattle.array.specs.declared.Array.the-variants as A
-use Rattle.array.specs.code.Corners.{physicalsOf, physicalPart, databasePart, converted, Grown, Converts, endOf, Ends, cornersFor, stepsOf, cornered, afterSteps, afterSpacings, afterOrigin}
+use Rattle.array.specs.code.Corners.{physicalsOf, physicalPart, databasePart, converted, Grown, GivesArrayPoint, endOf, Ends, cornersFor, stepsOf, cornered, afterSteps, afterSpacings, afterOrigin}
 
 -- ---- a step by its answer, and what is left after it
 
@@ -49,7 +49,7 @@ module _ {R B : Type 0} (stop : Refusal → R) (e : Entry) (m : Made (Point Floa
   physicals-go-on p g = on (F.At p) g
 
 -- a point on the grid, with its physical values p
-module _ {R B : Type 0} (stop : Refusal → R) (e : Entry) (p : Point Float) (m : Made (Point ℤ)) (f : Point Float → Point ℤ → Made B) (k : B → Entry → R) (r : Converted) (h : Converts e p m r) where
+module _ {R B : Type 0} (stop : Refusal → R) (e : Entry) (p : Point Float) (m : Made (Point ℤ)) (f : Point Float → Point ℤ → Made B) (k : B → Entry → R) (r : Converted) (h : GivesArrayPoint e p m r) where
   abbrev spread : Converted → R
   spread (C.Refused x) = stop x
   spread (C.At a e′) = run stop e′ (f (physicalPart a) (databasePart a)) k
@@ -63,7 +63,7 @@ module _ {R B : Type 0} (stop : Refusal → R) (e : Entry) (p : Point Float) (m 
   pub converted-goes-on : (a : ArrayPoint) (e′ : Entry) → r ≡ C.At a e′ → run stop e′ (f (physicalPart a) (databasePart a)) k ≡ run stop e (m >>= f p) k
   converted-goes-on a e′ g = ap spread (sym g) ∙ left
 
-pub converted-more : (e : Entry) (p : Point Float) (m : Made (Point ℤ)) (r : Converted) → Converts e p m r → (a : ArrayPoint) (e′ : Entry) → r ≡ C.At a e′ → e′ .count ≤ e .count + 2
+pub converted-more : (e : Entry) (p : Point Float) (m : Made (Point ℤ)) (r : Converted) → GivesArrayPoint e p m r → (a : ArrayPoint) (e′ : Entry) → r ≡ C.At a e′ → e′ .count ≤ e .count + 2
 converted-more e p m r h a e′ g = subst (Grown (e .count)) g (h .grown)
 
 -- an endpoint q
@@ -163,7 +163,7 @@ read-back x0 y0 ax ay bx by x1 y1 x2 y2 f0 f1 f2 f3 f4 f5 f6 f7 f8 f9 =
 -- ---- the steps
 
 module _ (policy : GdsRoundingPolicy) (d : Float) (columns rows : ℕ) (po : Point Float) (o : Point ℤ) (pa pb : Point Float) (e : Entry) (r : Converted)
-    (h : Converts e pa (writePhysical policy d columnSpacingField pa) r) where
+    (h : GivesArrayPoint e pa (writePhysical policy d columnSpacingField pa) r) where
   abbrev column-step : Made (Point ℤ)
   column-step = writePhysical policy d columnSpacingField pa
 
@@ -180,7 +180,7 @@ module _ (policy : GdsRoundingPolicy) (d : Float) (columns rows : ℕ) (po : Poi
   unfolding afterSpacings
   column-stops x g = converted-stops A.Refused e pa column-step with-column (cornered columns rows) r h x g
 
-  module _ (a : ArrayPoint) (e1 : Entry) (g : r ≡ C.At a e1) (s : Converted) (i : Converts e1 pb (writePhysical policy d rowSpacingField pb) s) where
+  module _ (a : ArrayPoint) (e1 : Entry) (g : r ≡ C.At a e1) (s : Converted) (i : GivesArrayPoint e1 pb (writePhysical policy d rowSpacingField pb) s) where
     after-column : run A.Refused e1 (with-column (physicalPart a) (databasePart a)) (cornered columns rows) ≡ all-steps
     unfolding afterSpacings
     after-column = converted-goes-on A.Refused e pa column-step with-column (cornered columns rows) r h a e1 g
@@ -251,7 +251,7 @@ module _ (policy : GdsRoundingPolicy) (d : Float) (sine cosine : Float) (columns
   pub origin-stops : (x : Refusal) → v ≡ F.Refused x → A.Refused x ≡ array
   origin-stops x g = physicals-stop A.Refused e (physicalPoint origin) with-physical (cornered columns rows) v h x g ∙ in-parts
 
-  module _ (p : _) (g : v ≡ F.At p) (r : Converted) (i : Converts e (pointOf p) (writePhysical policy d originField (pointOf p)) r) where
+  module _ (p : _) (g : v ≡ F.At p) (r : Converted) (i : GivesArrayPoint e (pointOf p) (writePhysical policy d originField (pointOf p)) r) where
     after-physical : run A.Refused e (with-physical (pointOf p)) (cornered columns rows) ≡ array
     after-physical = physicals-go-on A.Refused e (physicalPoint origin) with-physical (cornered columns rows) v h p g ∙ in-parts
 

@@ -1,14 +1,14 @@
 // The conversions of an array (`write_reference_cell` of write/mod.rs): always through doubles, with no bypass, and the element's entry with them.
 ghost use mathlib.Core.Path.{_≡_};
-ghost use Prim.Native.Nat.{_+_, _≤_, _<_};
+ghost use Prim.Native.Nat.{_+_, _≤_};
 ghost use lib.ListN.{length};
 ghost use Rattle.conversion.specs.code.Answer.{pointOf};
 ghost use Rattle.conversion.specs.Array.{physicalPoint, physicalSpacing, writePhysical, writeEndpoint, convertArray};
-ghost use Rattle.conversion.specs.code.Fold.{run};
+ghost use Rattle.conversion.specs.code.Fold.{Spare, run};
 ghost use Rattle.forms.specs.code.Place.{pointAt, spacingAt, pointLength};
 ghost use Rattle.forms.specs.code.Forms.{ReferenceIn};
 ghost use Rattle.array.specs.declared.Array.the-variants as Answer;
-ghost use Rattle.array.specs.code.Corners.{physicalsOf, physicalPart, databasePart, Converts, endOf, Ends, cornered, afterSteps, afterSpacings, afterOrigin};
+ghost use Rattle.array.specs.code.Corners.{arrayDeviations, physicalsOf, physicalPart, databasePart, GivesArrayPoint, endOf, Ends, cornered, afterSteps, afterSpacings, afterOrigin};
 use conversion::CoordinateConverter;
 use conversion::Entry;
 use conversion::PhysicalPoint;
@@ -100,8 +100,8 @@ fn convert_physical_point(
     field: u8,
     entry: Entry,
 ) -> Converted
-    requires { ⌜ entry .count < 4294967294 ⌝ }
-    ensures { λ r. ⌜ Converts entry (pointOf p) (writePhysical (converter .policy) (converter .d) field (pointOf p)) r ⌝ }
+    requires { ⌜ Spare 2 entry ⌝ }
+    ensures { λ r. ⌜ GivesArrayPoint entry (pointOf p) (writePhysical (converter .policy) (converter .d) field (pointOf p)) r ⌝ }
 {
     let a = converter.convert_physical(p.x);
     match coordinate::record_quantization(a, field, conversion::X_AXIS, 0, entry) {
@@ -136,7 +136,7 @@ fn convert_endpoint(
     field: u8,
     entry: Entry,
 ) -> Pointed
-    requires { ⌜ entry .count < 4294967294 ⌝ }
+    requires { ⌜ Spare 2 entry ⌝ }
     ensures { λ r. ⌜ Ends entry (endOf (databasePart origin) (databasePart step) n) (writeEndpoint (converter .policy) (converter .d) field (databasePart origin) (databasePart step) n (physicalPart origin) (physicalPart step)) r ⌝ }
 {
     let p = conversion::endpoint_physical(step.px, n, origin.px);
@@ -162,21 +162,20 @@ fn convert_endpoint(
 // The endpoints, columns before rows.
 fn convert_endpoints(
     converter: CoordinateConverter,
-    columns: u32,
-    rows: u32,
+    s: ReferencePlaces,
     origin: ArrayPoint,
     column: ArrayPoint,
     row: ArrayPoint,
     entry: Entry,
 ) -> Array
-    requires { ⌜ entry .count ≤ 22 ⌝ }
-    ensures { λ r. ⌜ r ≡ run Answer.Refused entry (afterSteps (converter .policy) (converter .d) columns rows (physicalPart origin) (databasePart origin) (physicalPart column) (physicalPart row) (databasePart column) (databasePart row)) (cornered columns rows) ⌝ }
+    requires { ⌜ Spare 4 entry ⌝ }
+    ensures { λ r. ⌜ r ≡ run Answer.Refused entry (afterSteps (converter .policy) (converter .d) (s .columns) (s .rows) (physicalPart origin) (databasePart origin) (physicalPart column) (physicalPart row) (databasePart column) (databasePart row)) (cornered (s .columns) (s .rows)) ⌝ }
 {
     match convert_endpoint(
         converter,
         origin,
         column,
-        columns,
+        s.columns,
         conversion::COLUMN_ENDPOINT_FIELD,
         entry,
     ) {
@@ -190,7 +189,7 @@ fn convert_endpoints(
                 converter,
                 origin,
                 row,
-                rows,
+                s.rows,
                 conversion::ROW_ENDPOINT_FIELD,
                 e,
             ) {
@@ -222,15 +221,14 @@ fn convert_endpoints(
 // The steps, which are the turned spacings on the grid, and the endpoints.
 fn convert_steps(
     converter: CoordinateConverter,
-    columns: u32,
-    rows: u32,
+    s: ReferencePlaces,
     origin: ArrayPoint,
     column: PhysicalPoint,
     row: PhysicalPoint,
     entry: Entry,
 ) -> Array
-    requires { ⌜ entry .count ≤ 18 ⌝ }
-    ensures { λ r. ⌜ r ≡ run Answer.Refused entry (afterSpacings (converter .policy) (converter .d) columns rows (physicalPart origin) (databasePart origin) (pointOf column) (pointOf row)) (cornered columns rows) ⌝ }
+    requires { ⌜ Spare 8 entry ⌝ }
+    ensures { λ r. ⌜ r ≡ run Answer.Refused entry (afterSpacings (converter .policy) (converter .d) (s .columns) (s .rows) (physicalPart origin) (databasePart origin) (pointOf column) (pointOf row)) (cornered (s .columns) (s .rows)) ⌝ }
 {
     match convert_physical_point(converter, column, conversion::COLUMN_SPACING_FIELD, entry) {
         Converted::Refused { refusal } => Array::Refused { refusal },
@@ -240,7 +238,7 @@ fn convert_steps(
                 Converted::At {
                     point: b,
                     entry: more,
-                } => { convert_endpoints(converter, columns, rows, origin, a, b, more) }
+                } => { convert_endpoints(converter, s, origin, a, b, more) }
             }
         }
     }
@@ -255,7 +253,7 @@ fn convert_spacings(
     entry: Entry,
 ) -> Array
     requires { ⌜ ReferenceIn (now b) s ⌝ }
-    requires { ⌜ entry .count ≤ 18 ⌝ }
+    requires { ⌜ Spare 8 entry ⌝ }
     ensures { λ r. ⌜ r ≡ run Answer.Refused entry (afterOrigin (converter .policy) (converter .d) (s .columns) (s .rows) (s .sine) (s .cosine) (spacingAt (now (b .entry)) (s .column)) (spacingAt (now (b .entry)) (s .row)) (physicalPart origin) (databasePart origin)) (cornered (s .columns) (s .rows)) ⌝ }
 {
     match physical_spacing(b, s.column) {
@@ -266,7 +264,7 @@ fn convert_spacings(
                 Physical::At { point: row } => {
                     let a = conversion::turned(s.sine, s.cosine, column);
                     let c = conversion::turned(s.sine, s.cosine, row);
-                    convert_steps(converter, s.columns, s.rows, origin, a, c, entry)
+                    convert_steps(converter, s, origin, a, c, entry)
                 }
             }
         }
@@ -281,7 +279,7 @@ pub fn convert_array(
     entry: Entry,
 ) -> Array
     requires { ⌜ ReferenceIn (now b) s ⌝ }
-    requires { ⌜ entry .count ≤ 16 ⌝ }
+    requires { ⌜ Spare arrayDeviations entry ⌝ }
     ensures { λ r. ⌜ r ≡ run Answer.Refused entry (convertArray (converter .policy) (converter .d) (s .sine) (s .cosine) (s .columns) (s .rows) (pointAt (now (b .entry)) (s .origin)) (spacingAt (now (b .entry)) (s .column)) (spacingAt (now (b .entry)) (s .row))) (cornered (s .columns) (s .rows)) ⌝ }
 {
     match physical_point(b, s.origin) {

@@ -1,8 +1,9 @@
 -- `array::convert_array` meets its contract: the origin, and then the spacings. Assumes nothing.
 use mathlib.Core.Path.{_∙_}
-use Prim.Native.Nat.{_≤_}
 use native.Mathlib.Omega.{arith}
+use Rattle.conversion.specs.code.Fold.{Spare}
 use Rattle.forms.specs.code.Place.{pointAt, spacingAt}
+use Rattle.array.specs.code.Corners.{arrayDeviations}
 use Rattle.array.proofs.CornerLaws.{converted-more, origin-stops, origin-refused, array-made}
 use borrow.Author.Needs.{needs}
 use Rattle.array.proofs.convert_array.Statement.{statement}
@@ -34,7 +35,7 @@ convert-spacings-requires c κs =
     let r = at-convert-physical-point .convert-physical-point in
     let k = c .before .origin .given in
     let l = converted-more (a .entry) _ _ (r .result) (r .ensures) (k .0 .0) (k .0 .1 .0) (k .1) in
-    let p : a .entry .count ≤ 16 = start .pre .1 in
+    let p : Spare arrayDeviations (a .entry) = start .pre .1 in
     (start .pre .0, omega arith)
 
 returns : tie.Need-returns

@@ -46,38 +46,47 @@ enum-known-y : tie.Need-enum-known-y
 enum-known-y c = search needs
 
 -- the values of x and y are the definition's
-x-ends : (k : tie.After-record-quantization) → GivesValue (k .before .before .args .entry) (convertPhysical (k .before .before .args .converter .policy) (k .before .before .args .converter .d) (spot (k .before .before .args .field) xAxis 0) (pointOf (k .before .before .args .p) .x)) (k .record-quantization .result)
+x-ends : (k : tie.After-record-quantization)
+    → let a = k .before .before .args in
+    GivesValue (a .entry) (convertPhysical (a .converter .policy) (a .converter .d) (spot (a .field) xAxis 0) (a .p .x)) (k .record-quantization .result)
 x-ends k = same-values (k .before .convert-physical .ensures (spot (k .before .before .args .field) xAxis 0)) (k .record-quantization .ensures)
 
-y-ends : (k : tie.After-record-quantization2) → GivesValue (k .before .before .before .x .given .0 .1 .0) (convertPhysical (k .before .before .before .before .before .before .before .args .converter .policy) (k .before .before .before .before .before .before .before .args .converter .d) (spot (k .before .before .before .before .before .before .before .args .field) yAxis 0) (pointOf (k .before .before .before .before .before .before .before .args .p) .y)) (k .record-quantization2 .result)
-y-ends k = same-values (k .before .convert-physical2 .ensures (spot (k .before .before .before .before .before .before .before .args .field) yAxis 0)) (k .record-quantization2 .ensures)
+y-ends : (k : tie.After-record-quantization2)
+    → let at-x = k .before .before .before in
+    let a = at-x .before .before .before .before .args in
+    GivesValue (at-x .x .given .0 .1 .0) (convertPhysical (a .converter .policy) (a .converter .d) (spot (a .field) yAxis 0) (a .p .y)) (k .record-quantization2 .result)
+y-ends k =
+    let a = k .before .before .before .before .before .before .before .args in
+    same-values (k .before .convert-physical2 .ensures (spot (a .field) yAxis 0)) (k .record-quantization2 .ensures)
 
 returns : tie.Need-returns
 returns c =
-    let a = c .before .before .before .before .before .args in
-    let k = c .before .before .before in
+    let at-recorded = c .before .before .before in
+    let a = at-recorded .before .before .args in
     let g = c .before .refusal .given in
-    point-stops (a .converter .policy) (a .converter .d) (a .field) (pointOf (a .p)) (a .entry) (k .record-quantization .result) (x-ends k) (g .0 .0) (g .1)
+    point-stops (a .converter .policy) (a .converter .d) (a .field) (pointOf (a .p)) (a .entry) (at-recorded .record-quantization .result) (x-ends at-recorded) (g .0 .0) (g .1)
 
 returns-2 : tie.Need-returns-2
 returns-2 c =
-    let a = c .before .before .before .before .before .before .before .before .before .before .args in
-    let k = c .before .before .before .before .before .before .before .before in
-    let l = c .before .before .before in
-    let g = c .before .before .before .before .before .before .x .given in
+    let at-recorded2 = c .before .before .before in
+    let at-x = at-recorded2 .before .before .before in
+    let at-recorded = at-x .before .before in
+    let a = at-recorded .before .before .args in
+    let g = at-x .x .given in
     let h = c .before .refusal2 .given in
-    point-stops-at-y (a .converter .policy) (a .converter .d) (a .field) (pointOf (a .p)) (a .entry) (k .record-quantization .result) (x-ends k) (g .0 .0) (g .0 .1 .0) (g .1) (l .record-quantization2 .result) (y-ends l) (h .0 .0) (h .1)
+    point-stops-at-y (a .converter .policy) (a .converter .d) (a .field) (pointOf (a .p)) (a .entry) (at-recorded .record-quantization .result) (x-ends at-recorded) (g .0 .0) (g .0 .1 .0) (g .1) (at-recorded2 .record-quantization2 .result) (y-ends at-recorded2) (h .0 .0) (h .1)
 
 returns-3 : tie.Need-returns-3
 returns-3 c =
-    let a = c .before .before .before .before .before .before .before .before .before .before .args in
-    let k = c .before .before .before .before .before .before .before .before in
-    let l = c .before .before .before in
-    let g = c .before .before .before .before .before .before .x .given in
+    let at-recorded2 = c .before .before .before in
+    let at-x = at-recorded2 .before .before .before in
+    let at-recorded = at-x .before .before in
+    let a = at-recorded .before .before .args in
+    let g = at-x .x .given in
     let h = c .before .y .given in
     let f : SFits w32 (g .0 .0) = search needs in
     let f2 : SFits w32 (h .0 .0) = search needs in
-    point-made (a .converter .policy) (a .converter .d) (a .field) (pointOf (a .p)) (a .entry) (k .record-quantization .result) (x-ends k) (g .0 .0) (g .0 .1 .0) (g .1) (l .record-quantization2 .result) (y-ends l) (h .0 .0) (h .0 .1 .0) (h .1) _ _ (toZ-ofZ w32 (g .0 .0) f) (toZ-ofZ w32 (h .0 .0) f2)
+    point-made (a .converter .policy) (a .converter .d) (a .field) (pointOf (a .p)) (a .entry) (at-recorded .record-quantization .result) (x-ends at-recorded) (g .0 .0) (g .0 .1 .0) (g .1) (at-recorded2 .record-quantization2 .result) (y-ends at-recorded2) (h .0 .0) (h .0 .1 .0) (h .1) _ _ (toZ-ofZ w32 (g .0 .0) f) (toZ-ofZ w32 (h .0 .0) f2)
 
 pub convert-physical-point-spec : {M : Type 1} → statement M
 convert-physical-point-spec =

@@ -3,7 +3,7 @@ use mathlib.Core.Path.{_≡_, ap, _∙_}
 use Prim.Native.Nat.{_+_}
 use Rattle.conversion.specs.code.Answer.{physicalOf}
 use Rattle.conversion.specs.Convert.{physicalValue}
-use Rattle.forms.specs.code.Place.{unitAt, pointAt}
+use Rattle.forms.specs.code.Place.{coordinateLength, unitAt, pointAt}
 use Rattle.array.proofs.CoordinateLaws.{physical-x-refused, physical-y-refused, physical-both}
 use borrow.Author.Needs.{needs}
 use Rattle.array.proofs.physical_point.Statement.{statement}
@@ -39,7 +39,10 @@ enum-known-y c = search needs
 x-is : (k : tie.After-physical-value) → physicalOf (k .physical-value .result) ≡ physicalValue (unitAt (k .before .before .before .args .b .now) (k .before .before .before .args .at))
 x-is k = k .physical-value .ensures ∙ ap physicalValue (k .before .unit-at .ensures)
 
-y-is : (k : tie.After-physical-value2) → physicalOf (k .physical-value2 .result) ≡ physicalValue (unitAt (k .before .before .before .before .before .before .before .before .args .b .now) (k .before .before .before .before .before .before .before .before .args .at + 17))
+y-is : (k : tie.After-physical-value2)
+    → let at-x = k .before .before .before in
+    let a = at-x .before .before .before .before .before .args in
+    physicalOf (k .physical-value2 .result) ≡ physicalValue (unitAt (a .b .now) (a .at + coordinateLength))
 y-is k = k .physical-value2 .ensures ∙ ap physicalValue (k .before .unit-at2 .ensures)
 
 returns : tie.Need-returns

@@ -28,6 +28,10 @@ use Rattle.array.specs.declared.Corners.{Corners}
 use Rattle.array.specs.declared.Array.{Array}
 use Rattle.array.specs.declared.Array.the-variants as A
 
+-- the most deviations of an array: its origin, two steps and two endpoints, of two coordinates each
+abbrev pub arrayDeviations : ℕ
+arrayDeviations = 10
+
 -- ---- physical values
 
 abbrev pub physicalsOf : Physical → Made (Point Float)
@@ -52,7 +56,7 @@ Grown n (C.Refused r) = T true
 Grown n (C.At p e) = e .count ≤ n + 2
 
 -- the answer is the step's
-pub record Converts (e : Entry) (p : Point Float) (m : Made (Point ℤ)) (r : Converted) : Type 0 where
+pub record GivesArrayPoint (e : Entry) (p : Point Float) (m : Made (Point ℤ)) (r : Converted) : Type 0 where
   pub is : r ≡ run C.Refused e m (converted p)
   pub grown : Grown (e .count) r
 
