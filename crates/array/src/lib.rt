@@ -171,28 +171,16 @@ fn convert_endpoints(
     requires { ⌜ Spare 4 entry ⌝ }
     ensures { λ r. ⌜ r ≡ run Answer.Refused entry (afterSteps (converter .policy) (converter .d) (s .columns) (s .rows) (physicalPart origin) (databasePart origin) (physicalPart column) (physicalPart row) (databasePart column) (databasePart row)) (cornered (s .columns) (s .rows)) ⌝ }
 {
-    match convert_endpoint(
-        converter,
-        origin,
-        column,
-        s.columns,
-        conversion::COLUMN_ENDPOINT_FIELD,
-        entry,
-    ) {
+    let column_field = conversion::COLUMN_ENDPOINT_FIELD;
+    match convert_endpoint(converter, origin, column, s.columns, column_field, entry) {
         Pointed::Refused { refusal } => Array::Refused { refusal },
         Pointed::At {
             x: x1,
             y: y1,
             entry: e,
         } => {
-            match convert_endpoint(
-                converter,
-                origin,
-                row,
-                s.rows,
-                conversion::ROW_ENDPOINT_FIELD,
-                e,
-            ) {
+            let row_field = conversion::ROW_ENDPOINT_FIELD;
+            match convert_endpoint(converter, origin, row, s.rows, row_field, e) {
                 Pointed::Refused { refusal: refusal2 } => Array::Refused { refusal: refusal2 },
                 Pointed::At {
                     x: x2,
