@@ -27,7 +27,7 @@ use Rattle.forms.specs.code.Forms.{referenceAt}
 use Rattle.forms.proofs.StringLaws.{length-string}
 use Rattle.steps.specs.code.Steps.{Succeeds}
 use Rattle.steps.proofs.StepLaws.{yields, past-check}
-use Rattle.reference.specs.declared.Check.the-variants as C
+use Rattle.validation.specs.declared.Check.the-variants as C
 use Rattle.reference.specs.code.Reference.{guarded, lacking, Bounded, Checks}
 
 -- ---- a spacing that is lacking

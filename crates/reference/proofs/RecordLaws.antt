@@ -32,7 +32,7 @@ use Rattle.transform.specs.code.Strans.{saidOf, stransBytes, stransLength}
 use Rattle.transform.proofs.StransLaws.{then-strans, length-strans, transform-length}
 use Rattle.array.specs.declared.Corners.{Corners}
 use Rattle.array.specs.code.Corners.{cornersFor, stepsOf}
-use Rattle.reference.specs.code.Reference.{referenceBytes, sizeOf, singleRest, arrayRest, isSingle, referenceLength, srefOf, arefOf}
+use Rattle.reference.specs.code.Reference.{referenceBytes, sizeOf, singleRest, cornersLength, arrayRest, isSingle, referenceLength, srefOf, arefOf}
 
 -- ---- three points
 
@@ -40,10 +40,10 @@ abbrev pub threePoints : Corners → List (Point ℤ)
 threePoints c = record { x = c .x0; y = c .y0 } ∷ record { x = c .x1; y = c .y1 } ∷ record { x = c .x2; y = c .y2 } ∷ []
 
 pub corners-placed : (c : Corners) {d d1 d2 d3 d4 : List ℕ} {at a a0 a1 to : ℕ}
-    → WroteAt (headBytes 28 XY fourByte) d d1 at a → WroteAt (longBytes (c .x0) ++ longBytes (c .y0)) d1 d2 a a0 → WroteAt (longBytes (c .x1) ++ longBytes (c .y1)) d2 d3 a0 a1
-    → WroteAt (longBytes (c .x2) ++ longBytes (c .y2)) d3 d4 a1 to → Recorded (xyRecord (threePoints c)) 28 d d4 at to
+    → WroteAt (headBytes cornersLength XY fourByte) d d1 at a → WroteAt (longBytes (c .x0) ++ longBytes (c .y0)) d1 d2 a a0 → WroteAt (longBytes (c .x1) ++ longBytes (c .y1)) d2 d3 a0 a1
+    → WroteAt (longBytes (c .x2) ++ longBytes (c .y2)) d3 d4 a1 to → Recorded (xyRecord (threePoints c)) cornersLength d d4 at to
 corners-placed c h p q r =
-    record-at (xyRecord (threePoints c)) 28 refl h (then-at p (then-at q (same-bytes (sym (append-nil (longBytes (c .x2) ++ longBytes (c .y2)))) r)))
+    record-at (xyRecord (threePoints c)) cornersLength refl h (then-at p (then-at q (same-bytes (sym (append-nil (longBytes (c .x2) ++ longBytes (c .y2)))) r)))
 
 -- ---- all records. n is the name, as it was read.
 
@@ -52,7 +52,7 @@ module _ (b : List ℕ) (s : ReferencePlaces) (t : Strans) (inside : stringEnd b
   name-long = ap length h ∙ length-string b (s .name) inside
 
   -- where there is room for all, there is for the name, for the transform and for what comes after it
-  module _ (rest : ℕ) {first d d1 : List ℕ} {at a1 : ℕ} (room : at + sizeOf (stransLength t) (numberAt 2 b (s .name)) rest ≤ length d) (w : Placed first 4 d d1 at a1) where
+  module _ (rest : ℕ) {first d d1 : List ℕ} {a1 : ℕ} (room : sizeOf (stransLength t) (numberAt 2 b (s .name)) rest ≤ length d) (w : Placed first 4 d d1 0 a1) where
     pub name-room : a1 + (4 + (length name + length name % 2)) ≤ length d1
     name-room =
         let l = name-long in
@@ -92,24 +92,24 @@ module _ (b : List ℕ) (s : ReferencePlaces) (t : Strans) (inside : stringEnd b
 
   pub sref-placed : (x y z w : ℤ) → z ≡ x → w ≡ y → {d d1 d2 d3 last : List ℕ} {at a1 a2 a3 to : ℕ}
       → Recorded (emptyRecord SREF) 4 d d1 at a1 → Recorded (stringRecord SNAME (padded name)) (4 + (length name + length name % 2)) d1 d2 a1 a2
-      → Placed (stransBytes (saidOf t)) (stransLength t) d2 d3 a2 a3 → Recorded (xyRecord (record { x = z; y = w } ∷ [])) 12 d3 last a3 to
+      → Placed (stransBytes (saidOf t)) (stransLength t) d2 d3 a2 a3 → Recorded (xyRecord (record { x = z; y = w } ∷ [])) singleRest d3 last a3 to
       → Placed (referenceBytes (srefOf b s t x y)) (sizeOf (stransLength t) (numberAt 2 b (s .name)) singleRest) d last at to
   unfolding referenceBytes srefRecords srefOf
   sref-placed x y z w i j {d} {d1} {d2} {d3} {last} {at} {a1} {a2} {a3} {to} e n u v =
       front SREF (xyRecord (record { x = x; y = y } ∷ []) ∷ []) singleRest e n u
       (alone (xyRecord (record { x = x; y = y } ∷ []))
-      (subst (λ (p : Point ℤ). Recorded (xyRecord (p ∷ [])) 12 d3 last a3 to) (ap₂ (λ (x y : ℤ). record { x = x; y = y }) i j) v))
+      (subst (λ (p : Point ℤ). Recorded (xyRecord (p ∷ [])) singleRest d3 last a3 to) (ap₂ (λ (x y : ℤ). record { x = x; y = y }) i j) v))
 
   pub aref-placed : (c : Corners) → c ≡ cornersFor (s .columns) (s .rows) (stepsOf c) → {d d1 d2 d3 d4 last : List ℕ} {at a1 a2 a3 a4 to : ℕ}
       → Recorded (emptyRecord AREF) 4 d d1 at a1 → Recorded (stringRecord SNAME (padded name)) (4 + (length name + length name % 2)) d1 d2 a1 a2
-      → Placed (stransBytes (saidOf t)) (stransLength t) d2 d3 a2 a3 → Recorded (colrowRecord (s .columns) (s .rows)) 8 d3 d4 a3 a4 → Recorded (xyRecord (threePoints c)) 28 d4 last a4 to
+      → Placed (stransBytes (saidOf t)) (stransLength t) d2 d3 a2 a3 → Recorded (colrowRecord (s .columns) (s .rows)) 8 d3 d4 a3 a4 → Recorded (xyRecord (threePoints c)) cornersLength d4 last a4 to
       → Placed (referenceBytes (arefOf b s t c)) (sizeOf (stransLength t) (numberAt 2 b (s .name)) arrayRest) d last at to
   unfolding referenceBytes arefRecords arefOf
   aref-placed c g {d} {d1} {d2} {d3} {d4} {last} {at} {a1} {a2} {a3} {a4} {to} e n u k v =
       let c′ = cornersFor (s .columns) (s .rows) (stepsOf c) in
       front AREF (colrowRecord (s .columns) (s .rows) ∷ xyRecord (threePoints c′) ∷ []) arrayRest e n u
       (then-rest (colrowRecord (s .columns) (s .rows)) _ k
-      (alone (xyRecord (threePoints c′)) (subst (λ (z : Corners). Recorded (xyRecord (threePoints z)) 28 d4 last a4 to) g v)))
+      (alone (xyRecord (threePoints c′)) (subst (λ (z : Corners). Recorded (xyRecord (threePoints z)) cornersLength d4 last a4 to) g v)))
 
 -- z and w are what the machine reads back of x and y
 pub same-sref : (b : List ℕ) (s : ReferencePlaces) (t : Strans) {x y z w : ℤ} {n : ℕ} {d cur : List ℕ} {at to : ℕ} → z ≡ x → w ≡ y

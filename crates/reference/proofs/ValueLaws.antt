@@ -44,7 +44,7 @@ use Rattle.array.specs.code.Corners.{cornered}
 use Rattle.array.proofs.CornerLaws.{corners-are}
 use Rattle.reference.specs.declared.ReferenceValues.{ReferenceValues}
 use Rattle.reference.specs.declared.ReferenceValues.the-variants as N
-use Rattle.reference.specs.code.Reference.{sizeOf, singleRest, arrayRest, isSingle, referenceLength, guarded, Bounded, Encodes, afterTransform, afterChecks, turnedArray, srefOf, arefOf, readyOf, Fits, Values}
+use Rattle.reference.specs.code.Reference.{sizeOf, singleRest, arrayRest, isSingle, referenceLength, guarded, Bounded, Encodes, afterTransform, afterChecks, turnedArray, srefOf, arefOf, readyOf, Fits, GivesReference}
 use Rattle.reference.proofs.CheckLaws.{guarded-bounded, guarded-past}
 
 -- ---- 15, and then the array. t and u are the answers of the two tests.
@@ -112,11 +112,11 @@ module _ (policy : GdsRoundingPolicy) (d : Float) (b : List ℕ) (s : ReferenceP
     single-met =
         ap point-ready (c .is) ∙ run-through P.Refused pointed point-ready stopped sref-at (λ x. refl) (λ o e′. refl) e origin ∙ single-run ∙ chosen true h
 
-    pub single-stops : (x : Refusal) → r ≡ P.Refused x → Values b s e (afterTransform policy d (referenceAt b s) (saidOf t)) (N.Refused x)
+    pub single-stops : (x : Refusal) → r ≡ P.Refused x → GivesReference b s e (afterTransform policy d (referenceAt b s) (saidOf t)) (N.Refused x)
     single-stops x g = record { is = ap point-ready (sym g) ∙ single-met; fine = tt }
 
     -- z and w are what the machine reads back of x and y
-    pub single-made : (x y : ℤ) (e′ : Entry) → r ≡ P.At x y e′ → (z w : ℤ) → z ≡ x → w ≡ y → Values b s e (afterTransform policy d (referenceAt b s) (saidOf t)) (N.Single t z w e′)
+    pub single-made : (x y : ℤ) (e′ : Entry) → r ≡ P.At x y e′ → (z w : ℤ) → z ≡ x → w ≡ y → GivesReference b s e (afterTransform policy d (referenceAt b s) (saidOf t)) (N.Single t z w e′)
     single-made x y e′ g z w i j =
         record { is = ap₂ (λ (u v : ℤ). ready (srefOf b s t u v) e′) i j ∙ ap point-ready (sym g) ∙ single-met; fine = fits true h }
 
@@ -164,10 +164,10 @@ module _ (policy : GdsRoundingPolicy) (d : Float) (b : List ℕ) (s : ReferenceP
         ∙ array-run
         ∙ chosen false h
 
-    pub array-stops : (x : Refusal) → r ≡ A.Refused x → Values b s e (afterTransform policy d (referenceAt b s) (saidOf t)) (N.Refused x)
+    pub array-stops : (x : Refusal) → r ≡ A.Refused x → GivesReference b s e (afterTransform policy d (referenceAt b s) (saidOf t)) (N.Refused x)
     array-stops x g = record { is = ap array-ready (sym g) ∙ array-met; fine = tt }
 
-    pub array-made : (k : Corners) (e′ : Entry) → r ≡ A.Converted k e′ → Values b s e (afterTransform policy d (referenceAt b s) (saidOf t)) (N.Array t k e′)
+    pub array-made : (k : Corners) (e′ : Entry) → r ≡ A.Converted k e′ → GivesReference b s e (afterTransform policy d (referenceAt b s) (saidOf t)) (N.Array t k e′)
     array-made k e′ g =
         record { is = ap array-ready (sym g) ∙ array-met; fine = (fits false h, corners-are (s .columns) (s .rows) e array r k e′ c g) }
 
@@ -178,32 +178,32 @@ module _ (policy : GdsRoundingPolicy) (d : Float) (b : List ℕ) (s : ReferenceP
   unfolding guarded afterChecks afterTransform writeReference
   whole = refl
 
-  refused-values : (m : Made D.SaidBody) (x : Refusal) → refused x ≡ m → Values b s e m (N.Refused x)
+  refused-values : (m : Made D.SaidBody) (x : Refusal) → refused x ≡ m → GivesReference b s e m (N.Refused x)
   unfolding run
   refused-values m x h = record { is = ap (λ (n : Made D.SaidBody). run stopped e n ready) h; fine = tt }
 
-  pub transform-stops : (x : Refusal) → refused x ≡ writeTransform (s .degrees) (s .magnification) (s .reflection) → Values b s e (afterChecks policy d (referenceAt b s)) (N.Refused x)
+  pub transform-stops : (x : Refusal) → refused x ≡ writeTransform (s .degrees) (s .magnification) (s .reflection) → GivesReference b s e (afterChecks policy d (referenceAt b s)) (N.Refused x)
   unfolding afterChecks referenceAt
   transform-stops x g = refused-values _ x (refused-on (writeTransform (s .degrees) (s .magnification) (s .reflection)) (afterTransform policy d (referenceAt b s)) x g)
 
-  pub transform-goes-on : (t : Strans) → Encodes s t → (r : ReferenceValues) → Values b s e (afterTransform policy d (referenceAt b s) (saidOf t)) r → Values b s e (afterChecks policy d (referenceAt b s)) r
+  pub transform-goes-on : (t : Strans) → Encodes s t → (r : ReferenceValues) → GivesReference b s e (afterTransform policy d (referenceAt b s) (saidOf t)) r → GivesReference b s e (afterChecks policy d (referenceAt b s)) r
   unfolding afterChecks referenceAt
   transform-goes-on t g r v =
-      subst (λ (m : Made D.SaidBody). Values b s e m r) (pure-on (writeTransform (s .degrees) (s .magnification) (s .reflection)) (afterTransform policy d (referenceAt b s)) (saidOf t) g) v
+      subst (λ (m : Made D.SaidBody). GivesReference b s e m r) (pure-on (writeTransform (s .degrees) (s .magnification) (s .reflection)) (afterTransform policy d (referenceAt b s)) (saidOf t) g) v
 
-  pub checks-stop : (x : Refusal) → ((m : Made D.SaidBody) → refused x ≡ guarded (referenceAt b s) m) → Values b s e (writeReference policy d (referenceAt b s)) (N.Refused x)
+  pub checks-stop : (x : Refusal) → ((m : Made D.SaidBody) → refused x ≡ guarded (referenceAt b s) m) → GivesReference b s e (writeReference policy d (referenceAt b s)) (N.Refused x)
   checks-stop x h = refused-values _ x (h (afterChecks policy d (referenceAt b s)) ∙ whole)
 
-  pub checks-pass : ((m : Made D.SaidBody) → m ≡ guarded (referenceAt b s) m) → (r : ReferenceValues) → Values b s e (afterChecks policy d (referenceAt b s)) r → Values b s e (writeReference policy d (referenceAt b s)) r
-  checks-pass h r v = subst (λ (m : Made D.SaidBody). Values b s e m r) (h (afterChecks policy d (referenceAt b s)) ∙ whole) v
+  pub checks-pass : ((m : Made D.SaidBody) → m ≡ guarded (referenceAt b s) m) → (r : ReferenceValues) → GivesReference b s e (afterChecks policy d (referenceAt b s)) r → GivesReference b s e (writeReference policy d (referenceAt b s)) r
+  checks-pass h r v = subst (λ (m : Made D.SaidBody). GivesReference b s e m r) (h (afterChecks policy d (referenceAt b s)) ∙ whole) v
 
   -- a reference that succeeds has passed its checks, and is not refused
   module _ (g : Succeeds (writeReference policy d (referenceAt b s))) where
     pub reference-bounded : stringEnd b (s .name) ≤ length b → Bounded b s
     reference-bounded inside = guarded-bounded b s inside (afterChecks policy d (referenceAt b s)) (subst Succeeds (sym whole) g)
 
-    pub reference-past : {r : ReferenceValues} → Values b s e (afterChecks policy d (referenceAt b s)) r → Values b s e (writeReference policy d (referenceAt b s)) r
-    reference-past {r} v = subst (λ (m : Made D.SaidBody). Values b s e m r) (sym (guarded-past (referenceAt b s) _ (subst Succeeds (sym whole) g)) ∙ whole) v
+    pub reference-past : {r : ReferenceValues} → GivesReference b s e (afterChecks policy d (referenceAt b s)) r → GivesReference b s e (writeReference policy d (referenceAt b s)) r
+    reference-past {r} v = subst (λ (m : Made D.SaidBody). GivesReference b s e m r) (sym (guarded-past (referenceAt b s) _ (subst Succeeds (sym whole) g)) ∙ whole) v
 
-    pub reference-never : {X : Type 0} {r : ReferenceValues} {x : Refusal} → Values b s e (writeReference policy d (referenceAt b s)) r → r ≡ N.Refused x → X
+    pub reference-never : {X : Type 0} {r : ReferenceValues} {x : Refusal} → GivesReference b s e (writeReference policy d (referenceAt b s)) r → r ≡ N.Refused x → X
     reference-never {x = x} v h = never-stopped e (writeReference policy d (referenceAt b s)) x g (ap (readyOf b s) (sym h) ∙ v .is)

@@ -4,7 +4,7 @@ ghost use mathlib.Core.List.{[], _∷_};
 ghost use Prim.Native.Nat.{_+_, _≤_};
 ghost use lib.ListN.{length};
 ghost use Rattle.big_endian.specs.Big.{numberAt};
-ghost use Rattle.conversion.specs.code.Fold.{run};
+ghost use Rattle.conversion.specs.code.Fold.{Spare, run};
 ghost use Rattle.stream.specs.Records.{xyRecord};
 ghost use Rattle.cell.specs.Write.{inUnit, writeReference};
 ghost use Rattle.forms.specs.code.Place.{stringEnd, pointLength};
@@ -12,9 +12,9 @@ ghost use Rattle.forms.specs.code.Forms.{referenceAt, ReferenceIn};
 ghost use Rattle.records.specs.code.Bytes.{Placed, Recorded};
 ghost use Rattle.transform.specs.code.Strans.{saidOf, stransLength};
 ghost use Rattle.array.specs.declared.Array.the-variants as Answer;
-ghost use Rattle.array.specs.code.Corners.{cornersFor, stepsOf, cornered};
-ghost use Rattle.steps.specs.code.Steps.{Measures, Succeeds, Writes};
-ghost use Rattle.reference.specs.code.Reference.{referenceBytes, sizeOf, singleRest, arrayRest, isSingle, referenceLength, lacking, Bounded, Checks, Encodes, afterTransform, afterChecks, turnedArray, srefOf, arefOf, Values};
+ghost use Rattle.array.specs.code.Corners.{arrayDeviations, cornersFor, stepsOf, cornered};
+ghost use Rattle.steps.specs.code.Steps.{maxDeviations, Measures, Succeeds, Writes};
+ghost use Rattle.reference.specs.code.Reference.{referenceBytes, sizeOf, singleRest, cornersLength, arrayRest, maxFrontLength, isSingle, referenceLength, lacking, Bounded, Checks, Encodes, afterTransform, afterChecks, turnedArray, srefOf, arefOf, GivesReference};
 use array::Array;
 use array::Corners;
 use conversion::CoordinateConverter;
@@ -26,6 +26,7 @@ use steps::Measured;
 use steps::Written;
 use transform::Strans;
 use transform::Transform;
+use validation::Check;
 
 // The most columns or rows.
 const MAX_COL_ROW: usize = 32767;
@@ -37,11 +38,8 @@ const SINGLE_LENGTH: usize = 12;
 
 const ARRAY_LENGTH: usize = 36;
 
-// The first check that fails, if one does.
-pub enum Check {
-    Refused { refusal: Refusal },
-    Passed,
-}
+// The bytes of an XY of three points.
+const CORNERS_LENGTH: u16 = 28;
 
 // A refusal; or the values of the records that the sheet does not hold as they are, with the entry after them.
 pub enum ReferenceValues {
@@ -120,7 +118,7 @@ fn in_unit(x: f64) -> bool
 // An array: its sine and cosine before its conversions.
 fn turned_array(converter: CoordinateConverter, b: &[u8], s: ReferencePlaces, entry: Entry) -> Array
     requires { ⌜ ReferenceIn (now b) s ⌝ }
-    requires { ⌜ entry .count ≤ 16 ⌝ }
+    requires { ⌜ Spare arrayDeviations entry ⌝ }
     ensures { λ r. ⌜ r ≡ run Answer.Refused entry (turnedArray (converter .policy) (converter .d) (referenceAt (now (b .entry)) s)) (cornered (s .columns) (s .rows)) ⌝ }
 {
     if !in_unit(s.sine) {
@@ -157,8 +155,8 @@ fn place_reference(
     requires { ⌜ ReferenceIn (now b) s ⌝ }
     requires { ⌜ Bounded (now b) s ⌝ }
     requires { ⌜ Encodes s strans ⌝ }
-    requires { ⌜ entry .count ≤ 16 ⌝ }
-    ensures { λ r. ⌜ Values (now (b .entry)) s entry (afterTransform (converter .policy) (converter .d) (referenceAt (now (b .entry)) s) (saidOf strans)) r ⌝ }
+    requires { ⌜ Spare arrayDeviations entry ⌝ }
+    ensures { λ r. ⌜ GivesReference (now (b .entry)) s entry (afterTransform (converter .policy) (converter .d) (referenceAt (now (b .entry)) s) (saidOf strans)) r ⌝ }
 {
     if is_single(s) {
         match coordinate::convert_point(
@@ -198,8 +196,8 @@ fn convert_reference(
 ) -> ReferenceValues
     requires { ⌜ ReferenceIn (now b) s ⌝ }
     requires { ⌜ Bounded (now b) s ⌝ }
-    requires { ⌜ entry .count ≤ 16 ⌝ }
-    ensures { λ r. ⌜ Values (now (b .entry)) s entry (afterChecks (converter .policy) (converter .d) (referenceAt (now (b .entry)) s)) r ⌝ }
+    requires { ⌜ Spare arrayDeviations entry ⌝ }
+    ensures { λ r. ⌜ GivesReference (now (b .entry)) s entry (afterChecks (converter .policy) (converter .d) (referenceAt (now (b .entry)) s)) r ⌝ }
 {
     match transform::encode_transformation(s.degrees, s.magnification, s.reflection) {
         Transform::Refused { refusal } => ReferenceValues::Refused { refusal },
@@ -215,8 +213,8 @@ fn reference_values(
     entry: Entry,
 ) -> ReferenceValues
     requires { ⌜ ReferenceIn (now b) s ⌝ }
-    requires { ⌜ entry .count ≤ 16 ⌝ }
-    ensures { λ r. ⌜ Values (now (b .entry)) s entry (writeReference (converter .policy) (converter .d) (referenceAt (now (b .entry)) s)) r ⌝ }
+    requires { ⌜ Spare arrayDeviations entry ⌝ }
+    ensures { λ r. ⌜ GivesReference (now (b .entry)) s entry (writeReference (converter .policy) (converter .d) (referenceAt (now (b .entry)) s)) r ⌝ }
 {
     match check_reference(b, s) {
         Check::Refused { refusal } => ReferenceValues::Refused { refusal },
@@ -230,7 +228,7 @@ fn reference_values(
 fn front_length(b: &[u8], s: ReferencePlaces, strans: Strans) -> usize
     requires { ⌜ s .name + 2 ≤ length (now b) ⌝ }
     ensures { λ r. ⌜ r ≡ sizeOf (stransLength strans) (numberAt 2 (now (b .entry)) (s .name)) 0 ⌝ }
-    ensures { λ r. ⌜ r ≤ 100000 ⌝ }
+    ensures { λ r. ⌜ r ≤ maxFrontLength ⌝ }
 {
     let n = big_endian::u16_at(b, s.name) as usize;
     FRONT_LENGTH + n + n % 2 + transform::strans_length(strans)
@@ -244,7 +242,7 @@ pub fn measure_reference(
     entry: Entry,
 ) -> Measured
     requires { ⌜ ReferenceIn (now b) reference ⌝ }
-    requires { ⌜ entry .count ≤ 16 ⌝ }
+    requires { ⌜ Spare maxDeviations entry ⌝ }
     ensures { λ r. ⌜ Measures referenceBytes entry (writeReference (converter .policy) (converter .d) (referenceAt (now (b .entry)) reference)) r ⌝ }
 {
     match reference_values(converter, b, reference, entry) {
@@ -273,83 +271,67 @@ pub fn measure_reference(
 
 // XY of an array's three points, at a place.
 fn put_corners_at(out: &mut [u8], at: usize, c: Corners) -> usize
-    requires { ⌜ at + 28 ≤ length (now out) ⌝ }
-    ensures { λ r. ⌜ Recorded (xyRecord (record { x = c .x0; y = c .y0 } ∷ record { x = c .x1; y = c .y1 } ∷ record { x = c .x2; y = c .y2 } ∷ [])) 28 (now (out .entry)) (now (out .exit)) at r ⌝ }
+    requires { ⌜ at + cornersLength ≤ length (now out) ⌝ }
+    ensures { λ r. ⌜ Recorded (xyRecord (record { x = c .x0; y = c .y0 } ∷ record { x = c .x1; y = c .y1 } ∷ record { x = c .x2; y = c .y2 } ∷ [])) cornersLength (now (out .entry)) (now (out .exit)) at r ⌝ }
 {
-    let a = records::put_head_at(out, at, 28, records::XY, records::FOUR_BYTE);
+    let a = records::put_head_at(out, at, CORNERS_LENGTH, records::XY, records::FOUR_BYTE);
     let a0 = coordinate::put_point(out, a, c.x0, c.y0);
     let a1 = coordinate::put_point(out, a0, c.x1, c.y1);
     coordinate::put_point(out, a1, c.x2, c.y2)
 }
 
-// SREF, SNAME, the transform and XY, at a place.
-fn put_sref_at(
-    out: &mut [u8],
-    at: usize,
-    b: &[u8],
-    s: ReferencePlaces,
-    strans: Strans,
-    x: i32,
-    y: i32,
-) -> usize
+// SREF, SNAME, the transform and XY.
+fn put_sref(out: &mut [u8], b: &[u8], s: ReferencePlaces, strans: Strans, x: i32, y: i32) -> usize
     requires { ⌜ stringEnd (now b) (s .name) ≤ length (now b) ⌝ }
     requires { ⌜ Bounded (now b) s ⌝ }
-    requires { ⌜ at + sizeOf (stransLength strans) (numberAt 2 (now b) (s .name)) singleRest ≤ length (now out) ⌝ }
-    ensures { λ r. ⌜ Placed (referenceBytes (srefOf (now (b .entry)) s strans x y)) (sizeOf (stransLength strans) (numberAt 2 (now (b .entry)) (s .name)) singleRest) (now (out .entry)) (now (out .exit)) at r ⌝ }
+    requires { ⌜ sizeOf (stransLength strans) (numberAt 2 (now b) (s .name)) singleRest ≤ length (now out) ⌝ }
+    ensures { λ r. ⌜ Placed (referenceBytes (srefOf (now (b .entry)) s strans x y)) (sizeOf (stransLength strans) (numberAt 2 (now (b .entry)) (s .name)) singleRest) (now (out .entry)) (now (out .exit)) 0 r ⌝ }
 {
-    let a = records::put_empty_at(out, at, records::SREF);
+    let a = records::put_empty_at(out, 0, records::SREF);
     let a2 = records::put_string_at(out, a, records::SNAME, forms::string_at(b, s.name));
     let a3 = transform::put_strans_at(out, a2, strans);
     coordinate::put_xy_at(out, a3, x, y)
 }
 
-// AREF, SNAME, the transform, COLROW and XY, at a place.
-fn put_aref_at(
-    out: &mut [u8],
-    at: usize,
-    b: &[u8],
-    s: ReferencePlaces,
-    strans: Strans,
-    c: Corners,
-) -> usize
+// AREF, SNAME, the transform, COLROW and XY.
+fn put_aref(out: &mut [u8], b: &[u8], s: ReferencePlaces, strans: Strans, c: Corners) -> usize
     requires { ⌜ stringEnd (now b) (s .name) ≤ length (now b) ⌝ }
     requires { ⌜ Bounded (now b) s ⌝ }
     requires { ⌜ c ≡ cornersFor (s .columns) (s .rows) (stepsOf c) ⌝ }
-    requires { ⌜ at + sizeOf (stransLength strans) (numberAt 2 (now b) (s .name)) arrayRest ≤ length (now out) ⌝ }
-    ensures { λ r. ⌜ Placed (referenceBytes (arefOf (now (b .entry)) s strans c)) (sizeOf (stransLength strans) (numberAt 2 (now (b .entry)) (s .name)) arrayRest) (now (out .entry)) (now (out .exit)) at r ⌝ }
+    requires { ⌜ sizeOf (stransLength strans) (numberAt 2 (now b) (s .name)) arrayRest ≤ length (now out) ⌝ }
+    ensures { λ r. ⌜ Placed (referenceBytes (arefOf (now (b .entry)) s strans c)) (sizeOf (stransLength strans) (numberAt 2 (now (b .entry)) (s .name)) arrayRest) (now (out .entry)) (now (out .exit)) 0 r ⌝ }
 {
-    let a = records::put_empty_at(out, at, records::AREF);
+    let a = records::put_empty_at(out, 0, records::AREF);
     let a2 = records::put_string_at(out, a, records::SNAME, forms::string_at(b, s.name));
     let a3 = transform::put_strans_at(out, a2, strans);
     let a4 = records::put_colrow_at(out, a3, s.columns as u16, s.rows as u16);
     put_corners_at(out, a4, c)
 }
 
-// The records from a place of the output on; every value is known before the first byte is written.
+// The records at the start of the part that is lent; every value is known before the first byte is written.
 pub fn put_reference(
     converter: CoordinateConverter,
     b: &[u8],
     reference: ReferencePlaces,
     out: &mut [u8],
-    start: usize,
     entry: Entry,
 ) -> Written
     requires { ⌜ ReferenceIn (now b) reference ⌝ }
     requires { ⌜ Succeeds (writeReference (converter .policy) (converter .d) (referenceAt (now b) reference)) ⌝ }
-    requires { ⌜ entry .count ≤ 16 ⌝ }
-    requires { ⌜ start + referenceLength (now b) reference ≤ length (now out) ⌝ }
-    ensures { λ r. ⌜ Writes referenceBytes entry (writeReference (converter .policy) (converter .d) (referenceAt (now (b .entry)) reference)) start (now (out .entry)) (now (out .exit)) r ⌝ }
+    requires { ⌜ Spare maxDeviations entry ⌝ }
+    requires { ⌜ referenceLength (now b) reference ≤ length (now out) ⌝ }
+    ensures { λ r. ⌜ Writes referenceBytes entry (writeReference (converter .policy) (converter .d) (referenceAt (now (b .entry)) reference)) 0 (now (out .entry)) (now (out .exit)) r ⌝ }
 {
     match convert_reference(converter, b, reference, entry) {
         // Never: the reference is not refused.
-        ReferenceValues::Refused { refusal: _ } => Written { to: start, entry },
+        ReferenceValues::Refused { refusal: _ } => Written { to: 0, entry },
         ReferenceValues::Single {
             strans,
             x,
             y,
             entry: e,
         } => Written {
-            to: put_sref_at(out, start, b, reference, strans, x, y),
+            to: put_sref(out, b, reference, strans, x, y),
             entry: e,
         },
         ReferenceValues::Array {
@@ -357,7 +339,7 @@ pub fn put_reference(
             corners,
             entry: e2,
         } => Written {
-            to: put_aref_at(out, start, b, reference, strans2, corners),
+            to: put_aref(out, b, reference, strans2, corners),
             entry: e2,
         },
     }

@@ -1,7 +1,7 @@
 -- `reference::reference_values` meets its contract: the checks, and then what follows them. Assumes nothing.
 use mathlib.Core.Path.{_≡_, subst}
 use Rattle.forms.specs.code.Forms.{referenceAt}
-use Rattle.reference.specs.declared.Check.{Check}
+use Rattle.validation.specs.declared.Check.{Check}
 use Rattle.reference.specs.code.Reference.{guarded, guardedBy, BoundedBy}
 use Rattle.reference.proofs.ValueLaws.{checks-stop, checks-pass}
 use borrow.Author.Needs.{needs}

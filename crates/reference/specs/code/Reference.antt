@@ -29,10 +29,10 @@ use Rattle.forms.specs.code.Place.{spacingAt, stringAt}
 use Rattle.transform.specs.declared.Strans.{Strans}
 use Rattle.transform.specs.code.Strans.{saidOf, stransBytes, stransLength, transformLength}
 use Rattle.steps.specs.code.Ready.{Ready, stopped, ready}
+use Rattle.validation.specs.declared.Check.{Check}
+use Rattle.validation.specs.declared.Check.the-variants as C
 use Rattle.array.specs.declared.Corners.{Corners}
 use Rattle.array.specs.code.Corners.{cornersFor, stepsOf}
-use Rattle.reference.specs.declared.Check.{Check}
-use Rattle.reference.specs.declared.Check.the-variants as C
 use Rattle.reference.specs.declared.ReferenceValues.{ReferenceValues}
 use Rattle.reference.specs.declared.ReferenceValues.the-variants as N
 
@@ -49,9 +49,17 @@ sizeOf t n rest = 4 + ((4 + (n + n % 2)) + (t + rest))
 abbrev pub singleRest : ℕ
 singleRest = 12
 
--- an AREF's COLROW, and its XY of three points
+-- an XY of three points
+abbrev pub cornersLength : ℕ
+cornersLength = 28
+
+-- an AREF's COLROW, and its XY
 abbrev pub arrayRest : ℕ
-arrayRest = 8 + 28
+arrayRest = 8 + cornersLength
+
+-- the most in front of it: 8 bytes with SNAME's head, a name whose length stands in two bytes, and a transform with all its records
+abbrev pub maxFrontLength : ℕ
+maxFrontLength = 8 + 65536 + 30
 
 -- 1 × 1
 abbrev pub isSingle : ReferencePlaces → Bool
@@ -151,6 +159,6 @@ Fine b s (N.Single t x y e) = Fits b s t singleRest
 Fine b s (N.Array t c e) = Fits b s t arrayRest × (c ≡ cornersFor (s .columns) (s .rows) (stepsOf c))
 
 -- the answer is the step's
-pub record Values (b : List ℕ) (s : ReferencePlaces) (e : Entry) (m : Made D.SaidBody) (r : ReferenceValues) : Type 0 where
+pub record GivesReference (b : List ℕ) (s : ReferencePlaces) (e : Entry) (m : Made D.SaidBody) (r : ReferenceValues) : Type 0 where
   pub is : readyOf b s r ≡ run stopped e m ready
   pub fine : Fine b s r

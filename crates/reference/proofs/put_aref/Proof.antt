@@ -1,11 +1,11 @@
--- `reference::put_aref_at` meets its contract, record by record. Assumes nothing.
+-- `reference::put_aref` meets its contract, record by record. Assumes nothing.
 use mathlib.Core.Path.{_∙_}
 use native.Mathlib.Omega.{arith}
 use Rattle.reference.proofs.RecordLaws.{name-long, name-room, strans-room, rest-room, aref-placed}
 use Rattle.reference.specs.code.Reference.{arrayRest}
 use borrow.Author.Needs.{needs}
-use Rattle.reference.proofs.put_aref_at.Statement.{statement}
-use Rattle.reference.proofs.put_aref_at.Tie as tie
+use Rattle.reference.proofs.put_aref.Statement.{statement}
+use Rattle.reference.proofs.put_aref.Tie as tie
 
 put-empty-at-requires : tie.Need-put-empty-at-requires
 put-empty-at-requires c κs = search needs
@@ -35,13 +35,19 @@ put-strans-at-requires c κs =
 
 cast-put-colrow-at : tie.Need-cast-put-colrow-at
 cast-put-colrow-at c =
-    let start = c .before .before .before .before .before .before .before .before .before .before .before .before .before .before .before .before .before in
+    let at-put-strans-at = c .before .before .before .before in
+    let at-put-string-at = at-put-strans-at .before .before .before .before in
+    let at-put-empty-at = at-put-string-at .before .before .before .before .before in
+    let start = at-put-empty-at .before .before .before .before in
     let b = start .pre .1 .0 .columns in
     search needs
 
 cast-put-colrow-at-2 : tie.Need-cast-put-colrow-at-2
 cast-put-colrow-at-2 c =
-    let start = c .before .before .before .before .before .before .before .before .before .before .before .before .before .before .before .before .before .before in
+    let at-put-strans-at = c .before .before .before .before .before in
+    let at-put-string-at = at-put-strans-at .before .before .before .before in
+    let at-put-empty-at = at-put-string-at .before .before .before .before .before in
+    let start = at-put-empty-at .before .before .before .before in
     let b = start .pre .1 .0 .rows in
     search needs
 
@@ -91,8 +97,8 @@ returns c =
     let a = start .args in
     aref-placed (a .b .now) (a .s) (a .strans) (start .pre .0) _ (at-string-at .string-at .ensures) (a .c) (start .pre .1 .1 .0) (at-put-empty-at .put-empty-at .ensures) (at-put-string-at .put-string-at .ensures) (at-put-strans-at .put-strans-at .ensures) (at-put-colrow-at .put-colrow-at .ensures) (c .before .before .put-corners-at .ensures)
 
-pub put-aref-at-spec : {M : Type 1} → statement M
-put-aref-at-spec =
+pub put-aref-spec : {M : Type 1} → statement M
+put-aref-spec =
     tie.close
     (tie.spec
     put-empty-at-requires

@@ -1,4 +1,4 @@
--- `reference::put_sref_at` meets its contract, record by record. Assumes nothing.
+-- `reference::put_sref` meets its contract, record by record. Assumes nothing.
 use mathlib.Core.Path.{_∙_}
 use native.Mathlib.Omega.{arith}
 use mir.Syntax.{w32}
@@ -6,8 +6,8 @@ use mir.ValLaws.{toZ-ofZ}
 use Rattle.reference.proofs.RecordLaws.{name-long, name-room, strans-room, rest-room, sref-placed}
 use Rattle.reference.specs.code.Reference.{singleRest}
 use borrow.Author.Needs.{needs}
-use Rattle.reference.proofs.put_sref_at.Statement.{statement}
-use Rattle.reference.proofs.put_sref_at.Tie as tie
+use Rattle.reference.proofs.put_sref.Statement.{statement}
+use Rattle.reference.proofs.put_sref.Tie as tie
 
 put-empty-at-requires : tie.Need-put-empty-at-requires
 put-empty-at-requires c κs = search needs
@@ -63,8 +63,8 @@ returns c =
     let a = start .args in
     sref-placed (a .b .now) (a .s) (a .strans) (start .pre .0) _ (at-string-at .string-at .ensures) (a .x) (a .y) _ _ (toZ-ofZ w32 (a .x) (start .fits .x)) (toZ-ofZ w32 (a .y) (start .fits .y)) (at-put-empty-at .put-empty-at .ensures) (at-put-string-at .put-string-at .ensures) (at-put-strans-at .put-strans-at .ensures) (c .before .before .put-xy-at .ensures)
 
-pub put-sref-at-spec : {M : Type 1} → statement M
-put-sref-at-spec =
+pub put-sref-spec : {M : Type 1} → statement M
+put-sref-spec =
     tie.close
     (tie.spec
     put-empty-at-requires
