@@ -32,12 +32,12 @@ use Rattle.steps.specs.declared.Measured.{Measured}
 use Rattle.steps.specs.declared.Measured.the-variants as M
 use Rattle.steps.specs.code.Steps.{sizing, Succeeds}
 use Rattle.steps.proofs.StepLaws.{yields, succeeds, written, putting}
-use Rattle.properties.specs.code.Tail.{said, propertyBytes, tailBytes, tailLength}
+use Rattle.properties.specs.code.Tail.{said, propertyBytes, propertyFront, propertyLength, tailBytes, tailLength}
 
 -- ---- lengths
 
 pub length-property : (b : List ℕ) (at : ℕ) → propertyEnd b at ≤ length b
-    → length (propertyBytes (said (propertyAt b at))) ≡ 10 + (numberAt 2 b (at + 2) + numberAt 2 b (at + 2) % 2)
+    → length (propertyBytes (said (propertyAt b at))) ≡ propertyLength (numberAt 2 b (at + 2))
 unfolding propertyAt
 length-property b at h =
     let s = stringAt b (at + 2) in
@@ -48,7 +48,7 @@ length-property b at h =
     length-append (recordBytes (wordRecord PROPATTR (numberAt 2 b at))) (recordBytes (stringRecord PROPVALUE (padded s)))
     ∙ go (length s) (numberAt 2 b (at + 2)) (length (padded s)) _ _ l p u v
   where
-    go : (n m p u v : ℕ) → n ≡ m → p ≡ n + n % 2 → u ≡ 6 → v ≡ 4 + p → u + v ≡ 10 + (m + m % 2)
+    go : (n m p u v : ℕ) → n ≡ m → p ≡ n + n % 2 → u ≡ 6 → v ≡ 4 + p → u + v ≡ propertyLength m
     go n m p u v a b c d = omega arith
 
 pub tail-cons : (q : D.Property) (qs : List D.Property) → tailBytes (q ∷ qs) ≡ propertyBytes q ++ tailBytes qs
@@ -156,7 +156,7 @@ count-start ws e = ap (λ (n : ℕ). M.Through n e) (go (length (tailBytes ws)))
     go : (n : ℕ) → n ≡ 0 + n
     go n = omega arith
 
-pub count-turn : (b : List ℕ) (at m done next : ℕ) → m ≡ numberAt 2 b (at + 2) → at + 4 + m ≤ length b → next ≡ done + 10 + m + m % 2
+pub count-turn : (b : List ℕ) (at m done next : ℕ) → m ≡ numberAt 2 b (at + 2) → at + 4 + m ≤ length b → next ≡ done + propertyFront + m + m % 2
     → (ws : List D.Property) (e : Entry) → counting done (said (propertyAt b at) ∷ ws) e ≡ counting next ws e
 unfolding counting
 count-turn b at m done next g h f ws e =
@@ -167,7 +167,7 @@ count-turn b at m done next g h f ws e =
     go : (at m x : ℕ) → m ≡ x → at + 4 + m ≤ length b → at + 2 + 2 + x ≤ length b
     go at m x e h = omega arith
 
-    sum : (m x done next r p t : ℕ) → m ≡ x → next ≡ done + 10 + m + m % 2 → p ≡ 10 + (x + x % 2) → t ≡ p + r → done + t ≡ next + r
+    sum : (m x done next r p t : ℕ) → m ≡ x → next ≡ done + propertyFront + m + m % 2 → p ≡ propertyLength x → t ≡ p + r → done + t ≡ next + r
     sum m x done next r p t a b c d = omega arith
 
 pub count-end : (done : ℕ) (e : Entry) → counting done [] e ≡ M.Through (done + 4) e
@@ -203,14 +203,14 @@ length-start n b at =
     let z : n ≡ n - 0 = omega arith in
     ap (λ (j : ℕ). tailLength j b at) z
 
-pub length-turn : (n i : ℕ) (b : List ℕ) (at m : ℕ) → i < n → m ≡ numberAt 2 b (at + 2) → tailLength (n - i) b at ≡ 10 + (m + m % 2) + tailLength (n - (i + 1)) b (at + 4 + m)
+pub length-turn : (n i : ℕ) (b : List ℕ) (at m : ℕ) → i < n → m ≡ numberAt 2 b (at + 2) → tailLength (n - i) b at ≡ propertyLength m + tailLength (n - (i + 1)) b (at + 4 + m)
 unfolding tailLength
 length-turn n i b at m h g =
     let z : n - i ≡ suc (n - (i + 1)) = omega arith in
     let y : at + 2 + 2 + numberAt 2 b (at + 2) ≡ at + 4 + m = go at m (numberAt 2 b (at + 2)) g in
     ap (λ (j : ℕ). tailLength j b at) z
-    ∙ ap (λ (j : ℕ). 10 + (numberAt 2 b (at + 2) + numberAt 2 b (at + 2) % 2) + tailLength (n - (i + 1)) b j) y
-    ∙ ap (λ (x : ℕ). 10 + (x + x % 2) + tailLength (n - (i + 1)) b (at + 4 + m)) (sym g)
+    ∙ ap (λ (j : ℕ). propertyLength (numberAt 2 b (at + 2)) + tailLength (n - (i + 1)) b j) y
+    ∙ ap (λ (x : ℕ). propertyLength x + tailLength (n - (i + 1)) b (at + 4 + m)) (sym g)
   where
     go : (at m x : ℕ) → m ≡ x → at + 2 + 2 + x ≡ at + 4 + m
     go at m x e = omega arith
@@ -251,6 +251,10 @@ place-in n i b at h p =
     go : (at x y z : ℕ) → y ≡ z → at + 2 + 2 + x ≤ z → y ≤ length b → at + 4 + x ≤ length b
     go at x y z e f g = omega arith
 
+-- its value, of m bytes, as it is read
+pub value-in : (n i : ℕ) (b : List ℕ) (at m : ℕ) → i < n → m ≡ numberAt 2 b (at + 2) → placeFrom propertyEnd (n - i) b at ≤ length b → at + 4 + m ≤ length b
+value-in n i b at m h g p = subst (λ (x : ℕ). at + 4 + x ≤ length b) (sym g) (place-in n i b at h p)
+
 pub place-next : (n i : ℕ) (b : List ℕ) (at m : ℕ) → i < n → m ≡ numberAt 2 b (at + 2) → placeFrom propertyEnd (n - i) b at ≤ length b → placeFrom propertyEnd (n - (i + 1)) b (at + 4 + m) ≤ length b
 place-next n i b at m h g p =
     let y : at + 2 + 2 + numberAt 2 b (at + 2) ≡ at + 4 + m = go at m (numberAt 2 b (at + 2)) g in
@@ -271,7 +275,7 @@ pub property-placed : (b : List ℕ) (at m a : ℕ) {d cur last : List ℕ} {to 
     → Recorded (wordRecord PROPATTR a) 6 d cur to r1
     → Recorded (stringRecord PROPVALUE (padded (take (at + 4 + m - (at + 4)) (drop (at + 4) b))))
     (4 + (length (take (at + 4 + m - (at + 4)) (drop (at + 4) b)) + length (take (at + 4 + m - (at + 4)) (drop (at + 4) b)) % 2)) cur last r1 r2
-    → Placed (propertyBytes (said (propertyAt b at))) (10 + (m + m % 2)) d last to r2
+    → Placed (propertyBytes (said (propertyAt b at))) (propertyLength m) d last to r2
 unfolding propertyAt
 property-placed b at m a {d} {cur} {last} {to} {r1} {r2} f g h u w =
     let s = stringAt b (at + 2) in
@@ -284,5 +288,5 @@ property-placed b at m a {d} {cur} {last} {to} {r1} {r2} f g h u w =
     go : (at m x : ℕ) → m ≡ x → at + 4 + m ≤ length b → at + 2 + 2 + x ≤ length b
     go at m x e h = omega arith
 
-    sum : (n m : ℕ) → n ≡ m → 6 + (4 + (n + n % 2)) ≡ 10 + (m + m % 2)
+    sum : (n m : ℕ) → n ≡ m → 6 + (4 + (n + n % 2)) ≡ propertyLength m
     sum n m e = omega arith

@@ -1,21 +1,26 @@
 // An element's properties and its ENDEL (`write_element_tail_to_file` of write/mod.rs), from their place in the block.
 ghost use mathlib.Core.Path.{_≡_};
-ghost use Prim.Native.Nat.{_+_, _%_, _≤_};
+ghost use Prim.Native.Nat.{_+_, _≤_};
 ghost use lib.ListN.{length};
 ghost use Rattle.big_endian.specs.Big.{numberAt};
 ghost use Rattle.cell.specs.Limits.{maxSheetLength, maxValueLength};
 ghost use Rattle.cell.specs.Write.{writeProperties};
-ghost use Rattle.forms.specs.code.Place.{placeFrom, propertyAt, propertyEnd, propertiesFrom};
+ghost use Rattle.forms.specs.code.Place.{placeFrom, propertyAt, propertyEnd};
+ghost use Rattle.forms.specs.code.Forms.{propertiesAt};
 ghost use Rattle.records.specs.code.Bytes.{Placed};
 ghost use Rattle.steps.specs.code.Steps.{Measures, Succeeds, Writes};
-ghost use Rattle.properties.specs.code.Tail.{said, propertyBytes, tailBytes, tailLength};
+ghost use Rattle.properties.specs.code.Tail.{said, propertyBytes, propertyLength, tailBytes, tailLength};
 use conversion::Entry;
+use forms::PropertyPlaces;
 use refusal::Refusal;
 use steps::Measured;
 use steps::Written;
 
 // The longest value that a PROPVALUE record holds.
 const MAX_VALUE_LENGTH: usize = 65530;
+
+// The bytes of a PROPATTR, and of the head of its PROPVALUE.
+const PROPERTY_FRONT: usize = 10;
 
 // How many bytes the value of the property at a place has.
 fn value_length(b: &[u8], at: usize) -> usize
@@ -26,13 +31,14 @@ fn value_length(b: &[u8], at: usize) -> usize
 }
 
 // The first value that is too long, or the length of all records to the ENDEL.
-pub fn measure_tail(b: &[u8], from: usize, n: usize, entry: Entry) -> Measured
+pub fn measure_tail(b: &[u8], properties: PropertyPlaces, entry: Entry) -> Measured
     requires { ⌜ length (now b) ≤ maxSheetLength ⌝ }
-    requires { ⌜ placeFrom propertyEnd n (now b) from ≤ length (now b) ⌝ }
-    ensures { λ r. ⌜ Measures tailBytes entry (writeProperties (propertiesFrom n (now (b .entry)) from)) r ⌝ }
+    requires { ⌜ placeFrom propertyEnd (properties .count) (now b) (properties .place) ≤ length (now b) ⌝ }
+    ensures { λ r. ⌜ Measures tailBytes entry (writeProperties (propertiesAt (now (b .entry)) properties)) r ⌝ }
 {
+    let n = properties.count;
     let mut i: usize = 0;
-    let mut at = from;
+    let mut at = properties.place;
     let mut size: usize = 0;
     while i < n {
         let m = value_length(b, at);
@@ -41,7 +47,7 @@ pub fn measure_tail(b: &[u8], from: usize, n: usize, entry: Entry) -> Measured
                 refusal: Refusal::StringLength,
             };
         }
-        size = size + 10 + m + m % 2;
+        size = size + PROPERTY_FRONT + m + m % 2;
         at = at + 4 + m;
         i = i + 1;
     }
@@ -56,8 +62,8 @@ fn put_property_at(out: &mut [u8], to: usize, b: &[u8], at: usize, m: usize) -> 
     requires { ⌜ m ≡ numberAt 2 (now b) (at + 2) ⌝ }
     requires { ⌜ m ≤ maxValueLength ⌝ }
     requires { ⌜ at + 4 + m ≤ length (now b) ⌝ }
-    requires { ⌜ to + (10 + (m + m % 2)) ≤ length (now out) ⌝ }
-    ensures { λ r. ⌜ Placed (propertyBytes (said (propertyAt (now (b .entry)) at))) (10 + (m + m % 2)) (now (out .entry)) (now (out .exit)) to r ⌝ }
+    requires { ⌜ to + propertyLength m ≤ length (now out) ⌝ }
+    ensures { λ r. ⌜ Placed (propertyBytes (said (propertyAt (now (b .entry)) at))) (propertyLength m) (now (out .entry)) (now (out .exit)) to r ⌝ }
 {
     let attribute = big_endian::u16_at(b, at);
     let a = records::put_word_at(out, to, records::PROPATTR, records::TWO_BYTE, attribute);
@@ -68,19 +74,19 @@ fn put_property_at(out: &mut [u8], to: usize, b: &[u8], at: usize, m: usize) -> 
 // All of them, then ENDEL.
 pub fn put_tail(
     b: &[u8],
-    from: usize,
-    n: usize,
+    properties: PropertyPlaces,
     out: &mut [u8],
     start: usize,
     entry: Entry,
 ) -> Written
-    requires { ⌜ placeFrom propertyEnd n (now b) from ≤ length (now b) ⌝ }
-    requires { ⌜ Succeeds (writeProperties (propertiesFrom n (now b) from)) ⌝ }
-    requires { ⌜ start + tailLength n (now b) from ≤ length (now out) ⌝ }
-    ensures { λ r. ⌜ Writes tailBytes entry (writeProperties (propertiesFrom n (now (b .entry)) from)) start (now (out .entry)) (now (out .exit)) r ⌝ }
+    requires { ⌜ placeFrom propertyEnd (properties .count) (now b) (properties .place) ≤ length (now b) ⌝ }
+    requires { ⌜ Succeeds (writeProperties (propertiesAt (now b) properties)) ⌝ }
+    requires { ⌜ start + tailLength (properties .count) (now b) (properties .place) ≤ length (now out) ⌝ }
+    ensures { λ r. ⌜ Writes tailBytes entry (writeProperties (propertiesAt (now (b .entry)) properties)) start (now (out .entry)) (now (out .exit)) r ⌝ }
 {
+    let n = properties.count;
     let mut i: usize = 0;
-    let mut at = from;
+    let mut at = properties.place;
     let mut to = start;
     while i < n {
         let m = value_length(b, at);

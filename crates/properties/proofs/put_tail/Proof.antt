@@ -1,5 +1,5 @@
 -- What is left to write stands at the place reached, after the properties that are there, and succeeds. Assumes nothing.
-use mathlib.Core.Path.{_≡_, refl, sym, _∙_, subst}
+use mathlib.Core.Path.{_≡_, refl, _∙_, subst}
 use mathlib.Core.List.{List}
 use Prim.Native.Nat.{ℕ, _+_, _-_, _≤_}
 use native.Mathlib.Omega.{arith}
@@ -10,10 +10,11 @@ use Rattle.conversion.specs.code.Fold.{run}
 use Rattle.conversion.proofs.FoldLaws.{run-same}
 use Rattle.cell.specs.Write.{writeProperties}
 use Rattle.forms.specs.code.Place.{placeFrom, propertyEnd, propertiesFrom}
+use Rattle.forms.specs.code.Forms.{propertiesAt}
 use Rattle.steps.specs.code.Steps.{Succeeds}
 use Rattle.steps.proofs.StepLaws.{Outcome, stopped, putting, writes}
 use Rattle.properties.specs.code.Tail.{tailBytes, tailLength}
-use Rattle.properties.proofs.TailLaws.{value-fits, rest-succeeds, tail-start, tail-turn, tail-end, put-turn, put-end, length-start, length-turn, length-end, place-start, place-in, place-next}
+use Rattle.properties.proofs.TailLaws.{value-fits, rest-succeeds, tail-start, tail-turn, tail-end, put-turn, put-end, length-start, length-turn, length-end, place-start, place-in, value-in, place-next}
 use Rattle.properties.proofs.put_tail.Statement.{statement}
 use Rattle.properties.proofs.put_tail.Tie as tie
 
@@ -27,10 +28,10 @@ record Inv (b : List ℕ) (from n : ℕ) (out₀ : List ℕ) (start : ℕ) (entr
       (run stopped entry (writeProperties (propertiesFrom (n - i) b at)) (putting tailBytes to out))
 
 abbrev Inv-loop : tie.InvT-loop
-Inv-loop b from n out₀ start entry i₀ at₀ to₀ out i at to = Inv b from n out₀ start entry out i at to
+Inv-loop b out₀ start entry n i₀ at₀ to₀ out i at to = Inv b at₀ n out₀ start entry out i at to
 
 abbrev μ-loop : tie.MeasureT-loop
-μ-loop b from n out₀ start entry i₀ at₀ to₀ out i at to = n - i
+μ-loop b out₀ start entry n i₀ at₀ to₀ out i at to = n - i
 
 none-yet : (n : ℕ) → n ≡ n - 0
 none-yet n = omega arith
@@ -41,17 +42,17 @@ loop-holds c =
     let a = s .args in
     record {
       within = omega arith;
-      place = subst (λ (z : ℕ). z ≤ length (a .b .now)) (place-start (a .n) (a .b .now) (a .from)) (s .pre .0);
-      accepted = subst (λ (j : ℕ). Succeeds (writeProperties (propertiesFrom j (a .b .now) (a .from)))) (none-yet (a .n)) (s .pre .1 .0);
+      place = subst (λ (z : ℕ). z ≤ length (a .b .now)) (place-start (a .properties .count) (a .b .now) (a .properties .place)) (s .pre .0);
+      accepted = subst (λ (j : ℕ). Succeeds (writeProperties (propertiesFrom j (a .b .now) (a .properties .place)))) (none-yet (a .properties .count)) (s .pre .1 .0);
       long = refl;
-      room = subst (λ (z : ℕ). a .start + z ≤ length (a .out .now)) (length-start (a .n) (a .b .now) (a .from)) (s .pre .1 .1);
-      rest = tail-start stopped (a .entry) _ (a .n) (a .b .now) (a .from);
+      room = subst (λ (z : ℕ). a .start + z ≤ length (a .out .now)) (length-start (a .properties .count) (a .b .now) (a .properties .place)) (s .pre .1 .1);
+      rest = tail-start stopped (a .entry) _ (a .properties .count) (a .b .now) (a .properties .place);
     }
 
 value-length-requires : tie.Need-value-length-requires Inv-loop μ-loop
 value-length-requires c κs =
     let b = c .before .before .before .before .args .b .now in
-    let n = c .before .before .before .before .args .n in
+    let n = c .before .before .before .before .args .properties .count in
     let l = c .before .loop in
     let h = place-in n (l .i) b (l .at) (c .loop-test .taken) (l .inv .place) in
     omega arith
@@ -59,13 +60,13 @@ value-length-requires c κs =
 put-property-at-requires : tie.Need-put-property-at-requires Inv-loop μ-loop
 put-property-at-requires c κs =
     let b = c .before .before .before .before .before .before .args .b .now in
-    let n = c .before .before .before .before .before .before .args .n in
+    let n = c .before .before .before .before .before .before .args .properties .count in
     let l = c .before .before .before .loop in
     let v = l .inv in
     let h = c .before .before .loop-test .taken in
     let m = c .before .value-length .result in
     let g = c .before .value-length .ensures in
-    let inside = subst (λ (x : ℕ). l .at + 4 + x ≤ length b) (sym g) (place-in n (l .i) b (l .at) h (v .place)) in
+    let inside = value-in n (l .i) b (l .at) m h g (v .place) in
     let r = length-turn n (l .i) b (l .at) m h g in
     let k = v .room in
     let j = v .long in
@@ -80,7 +81,7 @@ add-at c =
     let b = start .args .b .now in
     let l = at-loop .loop in
     let g = at-value-length .value-length .ensures in
-    let inside = subst (λ (x : ℕ). l .at + 4 + x ≤ length b) (sym g) (place-in (start .args .n) (l .i) b (l .at) (at-loop-test .loop-test .taken) (l .inv .place)) in
+    let inside = value-in (start .args .properties .count) (l .i) b (l .at) _ (at-loop-test .loop-test .taken) g (l .inv .place) in
     search needs
 
 add-at-2 : tie.Need-add-at-2 Inv-loop μ-loop
@@ -92,7 +93,7 @@ add-at-2 c =
     let b = start .args .b .now in
     let l = at-loop .loop in
     let g = at-value-length .value-length .ensures in
-    let inside = subst (λ (x : ℕ). l .at + 4 + x ≤ length b) (sym g) (place-in (start .args .n) (l .i) b (l .at) (at-loop-test .loop-test .taken) (l .inv .place)) in
+    let inside = value-in (start .args .properties .count) (l .i) b (l .at) _ (at-loop-test .loop-test .taken) g (l .inv .place) in
     search needs
 
 add-i : tie.Need-add-i Inv-loop μ-loop
@@ -109,7 +110,7 @@ loop-again c =
     let start = at-loop .before .before .before in
     let a = start .args in
     let b = a .b .now in
-    let n = a .n in
+    let n = a .properties .count in
     let l = at-loop .loop in
     let i = l .i in
     let at = l .at in
@@ -117,7 +118,7 @@ loop-again c =
     let h = at-loop-test .loop-test .taken in
     let m = at-value-length .value-length .result in
     let g = at-value-length .value-length .ensures in
-    let inside : at + 4 + m ≤ length b = subst (λ (x : ℕ). at + 4 + x ≤ length b) (sym g) (place-in n i b at h (v .place)) in
+    let inside = value-in n i b at m h g (v .place) in
     let w = c .before .before .put-property-at .ensures in
     let r = length-turn n i b at m h g in
     let k = v .room in
@@ -137,7 +138,7 @@ put-empty-at-requires : tie.Need-put-empty-at-requires Inv-loop μ-loop
 put-empty-at-requires c κs =
     let a = c .before .before .before .before .before .args in
     let l = c .before .before .loop in
-    let r = length-end (a .n) (l .i) (a .b .now) (l .at) (c .before .loop-test .left) in
+    let r = length-end (a .properties .count) (l .i) (a .b .now) (l .at) (c .before .loop-test .left) in
     let k = l .inv .room in
     let j = l .inv .long in
     omega arith
@@ -149,16 +150,16 @@ returns : tie.Need-returns Inv-loop μ-loop
 returns c =
     let at-loop-test = c .before .before .before .before in
     let at-loop = at-loop-test .before in
-    let start-2 = at-loop .before .before .before in
-    let a = start-2 .args in
+    let start = at-loop .before .before .before in
+    let a = start .args in
     let l = at-loop .loop in
     let v = l .inv in
     let w = c .before .before .put-empty-at .ensures in
-    let r = length-end (a .n) (l .i) (a .b .now) (l .at) (at-loop-test .loop-test .left) in
+    let r = length-end (a .properties .count) (l .i) (a .b .now) (l .at) (at-loop-test .loop-test .left) in
     let k = v .room in
     let z = w .end in
-    writes tailBytes (a .entry) (writeProperties (propertiesFrom (a .n) (a .b .now) (a .from))) (a .start) (a .out .now) _ _ (a .entry)
-    (v .rest ∙ tail-end stopped (a .entry) _ (a .n) (l .i) (a .b .now) (l .at) (at-loop-test .loop-test .left) ∙ put-end _ _ _ _ (a .entry) w) (omega arith)
+    writes tailBytes (a .entry) (writeProperties (propertiesAt (a .b .now) (a .properties))) (a .start) (a .out .now) _ _ (a .entry)
+    (v .rest ∙ tail-end stopped (a .entry) _ (a .properties .count) (l .i) (a .b .now) (l .at) (at-loop-test .loop-test .left) ∙ put-end _ _ _ _ (a .entry) w) (omega arith)
 
 pub put-tail-spec : {M : Type 1} → statement M
 put-tail-spec =

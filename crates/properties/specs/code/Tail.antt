@@ -16,10 +16,18 @@ said q = record { attribute = q .attribute; value = padded (q .value) }
 abbrev pub propertyBytes : D.Property → List ℕ
 propertyBytes q = recordBytes (wordRecord PROPATTR (q .attribute)) ++ recordBytes (stringRecord PROPVALUE (q .value))
 
+-- a PROPATTR of 6 bytes, and the head of its PROPVALUE, of 4
+abbrev pub propertyFront : ℕ
+propertyFront = 10
+
+-- and a value of m bytes, made even
+abbrev pub propertyLength : ℕ → ℕ
+propertyLength m = propertyFront + (m + m % 2)
+
 unfoldable pub tailBytes : List D.Property → List ℕ
 tailBytes qs = streamBytes (tailRecords qs [])
 
--- for each property a PROPATTR of 6 bytes, and a PROPVALUE of 4 and its value, made even; an ENDEL of 4
+-- each property, and an ENDEL of 4 bytes
 unfoldable pub tailLength : ℕ → List ℕ → ℕ → ℕ
 tailLength zero b at = 4
-tailLength (suc n) b at = 10 + (numberAt 2 b (at + 2) + numberAt 2 b (at + 2) % 2) + tailLength n b (propertyEnd b at)
+tailLength (suc n) b at = propertyLength (numberAt 2 b (at + 2)) + tailLength n b (propertyEnd b at)
