@@ -85,12 +85,7 @@ fn measure_parts(
 {
     match measure_body(converter, b, body, entry) {
         Measured::Refused { refusal } => Measured::Refused { refusal },
-        Measured::Through { length, entry: e } => match properties::measure_tail(
-            b,
-            properties.place,
-            properties.count,
-            e,
-        ) {
+        Measured::Through { length, entry: e } => match properties::measure_tail(b, properties, e) {
             Measured::Refused { refusal: refusal2 } => Measured::Refused { refusal: refusal2 },
             Measured::Through {
                 length: more,
@@ -152,7 +147,7 @@ fn put_body(
             entry,
         ),
         BodyPlaces::Path { path } => path::put_path(converter, b, path, part, 0, entry),
-        BodyPlaces::Text { text } => text::put_text(converter, b, text, part, 0, entry),
+        BodyPlaces::Text { text } => text::put_text(converter, b, text, part, entry),
         BodyPlaces::Node { shape: node } => polygon_node::put_node(
             converter,
             b,
@@ -166,7 +161,6 @@ fn put_body(
             b,
             reference,
             part,
-            0,
             entry,
         ),
     }
@@ -186,12 +180,5 @@ pub fn put_element(converter: CoordinateConverter, b: &[u8], index: u32, part: &
     };
     let kind = kind_of(b, body);
     let written = put_body(converter, b, body, part, Entry::blank(index, kind));
-    properties::put_tail(
-        b,
-        properties.place,
-        properties.count,
-        part,
-        written.to,
-        written.entry,
-    )
+    properties::put_tail(b, properties, part, written.to, written.entry)
 }

@@ -51,7 +51,7 @@ put-text-requires c κs =
     let a = s .args in
     let g = c .before .before .body3 .given in
     let r = room s (g .1) in
-    (r .inside, (text-as (a .converter .policy) (a .converter .d) (a .b .now) (g .0 .0) (g .1) .accepts (s .pre .1 .0), (omega (arith, few s), r .fits)))
+    (r .inside, (text-as (a .converter .policy) (a .converter .d) (a .b .now) (g .0 .0) (g .1) .accepts (s .pre .1 .0), (omega (arith, few s), omega (arith, r .fits))))
 
 enum-known-body-4 : tie.Need-enum-known-body-4
 enum-known-body-4 c = search needs
@@ -75,7 +75,7 @@ put-reference-requires c κs =
     let a = s .args in
     let g = c .before .before .body5 .given in
     let r = room s (g .1) in
-    (r .inside, (reference-as (a .converter .policy) (a .converter .d) (a .b .now) (g .0 .0) (g .1) .accepts (s .pre .1 .0), (few s, r .fits)))
+    (r .inside, (reference-as (a .converter .policy) (a .converter .d) (a .b .now) (g .0 .0) (g .1) .accepts (s .pre .1 .0), (omega (arith, few s), omega (arith, r .fits))))
 
 same-length : tie.Need-same-length
 same-length c = search needs
