@@ -24,12 +24,8 @@ ghost use Rattle.cell.specs.Cell.{writeBlocks, writeSheet};
 ghost use Rattle.cell.specs.Answer.{answerOf};
 ghost use Rattle.walk.specs.code.Walk.{headBytes, headMeasured, HeadSmall, totalsFrom, TotalsSmall, ElementsFit, PutsElements, AnswerSmall, StructureFits, PutsStructure};
 
-// BGNSTR, and its data, the block's twelve numbers.
+// BGNSTR, whose data are the block's twelve numbers, and ENDSTR.
 const BGNSTR_LENGTH: usize = 28;
-
-const STAMPS: usize = 24;
-
-const RECORD_HEAD: usize = 4;
 
 const ENDSTR_LENGTH: usize = 4;
 
@@ -84,7 +80,7 @@ fn measure_head(b: &[u8]) -> HeadMeasured
                 };
             }
             HeadMeasured::Through {
-                length: BGNSTR_LENGTH + RECORD_HEAD + name.len() + name.len() % 2,
+                length: BGNSTR_LENGTH + records::RECORD_HEAD + name.len() + name.len() % 2,
             }
         }
     }
@@ -192,7 +188,7 @@ fn put_head(b: &[u8], places: HeadPlaces, out: &mut [u8]) -> usize
     ensures { λ r. ⌜ WroteAt (headBytes (headAt (now (b .entry)) places)) (now (out .entry)) (now (out .exit)) 0 r ⌝ }
 {
     let from = places.stamps;
-    let to = records::put_stamps_at(out, 0, records::BGNSTR, &b[from..from + STAMPS]);
+    let to = records::put_stamps_at(out, 0, records::BGNSTR, &b[from..from + records::STAMPS]);
     records::put_string_at(out, to, records::STRNAME, forms::string_at(b, places.name))
 }
 
