@@ -50,86 +50,38 @@ value-length-requires c κs =
     let h = place-in (a .properties .count) (l .i) (a .b .now) (l .at) (c .loop-test .taken) (l .inv .place) in
     omega arith
 
+-- the value that was read lies in the block
+inside : (k : tie.After-value-length Inv-loop μ-loop) → let at-loop = k .before .before in at-loop .loop .at + 4 + k .value-length .result ≤ length (at-loop .before .before .args .b .now)
+inside k =
+    let at-loop = k .before .before in
+    let a = at-loop .before .before .args in
+    let l = at-loop .loop in
+    value-in (a .properties .count) (l .i) (a .b .now) (l .at) (k .value-length .result) (k .before .loop-test .taken) (k .value-length .ensures) (l .inv .place)
+
 returns : tie.Need-returns Inv-loop μ-loop
 returns c =
     let at-value-length = c .before in
     let at-loop-test = at-value-length .before in
     let at-loop = at-loop-test .before in
     let a = at-loop .before .before .args in
-    let b = a .b .now in
-    let n = a .properties .count in
     let l = at-loop .loop in
-    let v = l .inv in
-    let h = at-loop-test .loop-test .taken in
-    let m = at-value-length .value-length .result in
-    let g = at-value-length .value-length .ensures in
-    sym (v .rest ∙ tail-long M.Refused (a .entry) (counting (l .size)) n (l .i) b (l .at) m h g (value-in n (l .i) b (l .at) m h g (v .place)) (c .if1 .taken))
+    let r = at-value-length .value-length in
+    sym (l .inv .rest ∙ tail-long M.Refused (a .entry) (counting (l .size)) (a .properties .count) (l .i) (a .b .now) (l .at) (r .result) (at-loop-test .loop-test .taken) (r .ensures) (inside at-value-length) (c .if1 .taken))
 
 add-size : tie.Need-add-size Inv-loop μ-loop
-add-size c =
-    let at-value-length = c .before in
-    let at-loop-test = at-value-length .before in
-    let at-loop = at-loop-test .before in
-    let start = at-loop .before .before in
-    let l = at-loop .loop in
-    let v = l .inv in
-    let m = at-value-length .value-length .result in
-    let inside = value-in (start .args .properties .count) (l .i) (start .args .b .now) (l .at) m (at-loop-test .loop-test .taken) (at-value-length .value-length .ensures) (v .place) in
-    let k = v .small in
-    let p = start .pre .0 in
-    omega arith
+add-size c = let at-loop = c .before .before .before in omega (arith, inside (c .before), at-loop .loop .inv .small, at-loop .before .before .pre .0)
 
 add-size-2 : tie.Need-add-size-2 Inv-loop μ-loop
-add-size-2 c =
-    let at-value-length = c .before in
-    let at-loop-test = at-value-length .before in
-    let at-loop = at-loop-test .before in
-    let start = at-loop .before .before in
-    let l = at-loop .loop in
-    let v = l .inv in
-    let m = at-value-length .value-length .result in
-    let inside = value-in (start .args .properties .count) (l .i) (start .args .b .now) (l .at) m (at-loop-test .loop-test .taken) (at-value-length .value-length .ensures) (v .place) in
-    let k = v .small in
-    let p = start .pre .0 in
-    omega arith
+add-size-2 c = let at-loop = c .before .before .before in omega (arith, inside (c .before), at-loop .loop .inv .small, at-loop .before .before .pre .0)
 
 add-size-3 : tie.Need-add-size-3 Inv-loop μ-loop
-add-size-3 c =
-    let at-value-length = c .before in
-    let at-loop-test = at-value-length .before in
-    let at-loop = at-loop-test .before in
-    let start = at-loop .before .before in
-    let l = at-loop .loop in
-    let v = l .inv in
-    let m = at-value-length .value-length .result in
-    let inside = value-in (start .args .properties .count) (l .i) (start .args .b .now) (l .at) m (at-loop-test .loop-test .taken) (at-value-length .value-length .ensures) (v .place) in
-    let k = v .small in
-    let p = start .pre .0 in
-    omega arith
+add-size-3 c = let at-loop = c .before .before .before in omega (arith, inside (c .before), at-loop .loop .inv .small, at-loop .before .before .pre .0)
 
 add-at : tie.Need-add-at Inv-loop μ-loop
-add-at c =
-    let at-value-length = c .before in
-    let at-loop-test = at-value-length .before in
-    let at-loop = at-loop-test .before in
-    let start = at-loop .before .before in
-    let l = at-loop .loop in
-    let v = l .inv in
-    let m = at-value-length .value-length .result in
-    let inside = value-in (start .args .properties .count) (l .i) (start .args .b .now) (l .at) m (at-loop-test .loop-test .taken) (at-value-length .value-length .ensures) (v .place) in
-    search needs
+add-at c = let h = inside (c .before) in search needs
 
 add-at-2 : tie.Need-add-at-2 Inv-loop μ-loop
-add-at-2 c =
-    let at-value-length = c .before in
-    let at-loop-test = at-value-length .before in
-    let at-loop = at-loop-test .before in
-    let start = at-loop .before .before in
-    let l = at-loop .loop in
-    let v = l .inv in
-    let m = at-value-length .value-length .result in
-    let inside = value-in (start .args .properties .count) (l .i) (start .args .b .now) (l .at) m (at-loop-test .loop-test .taken) (at-value-length .value-length .ensures) (v .place) in
-    search needs
+add-at-2 c = let h = inside (c .before) in search needs
 
 add-i : tie.Need-add-i Inv-loop μ-loop
 add-i c = search needs
@@ -152,15 +104,15 @@ loop-again c =
     let h = at-loop-test .loop-test .taken in
     let m = at-value-length .value-length .result in
     let g = at-value-length .value-length .ensures in
-    let inside = value-in n i b at m h g (v .place) in
+    let e = inside at-value-length in
     let k = v .small in
     record {
       within = omega arith;
       place = place-next n i b at m h g (v .place);
       small = omega arith;
       rest = v .rest
-          ∙ tail-turn M.Refused (a .entry) (counting (l .size)) n i b at m h g inside (c .if1 .left)
-          ∙ run-same M.Refused (a .entry) _ _ _ (count-turn b at m (l .size) _ g inside refl);
+          ∙ tail-turn M.Refused (a .entry) (counting (l .size)) n i b at m h g e (c .if1 .left)
+          ∙ run-same M.Refused (a .entry) _ _ _ (count-turn b at m (l .size) _ g e refl);
     }
 
 add-t14 : tie.Need-add-t14 Inv-loop μ-loop

@@ -57,44 +57,38 @@ value-length-requires c κs =
     let h = place-in n (l .i) b (l .at) (c .loop-test .taken) (l .inv .place) in
     omega arith
 
+-- the value that was read lies in the block
+inside : (k : tie.After-value-length Inv-loop μ-loop) → let at-loop = k .before .before in at-loop .loop .at + 4 + k .value-length .result ≤ length (at-loop .before .before .before .args .b .now)
+inside k =
+    let at-loop = k .before .before in
+    let a = at-loop .before .before .before .args in
+    let l = at-loop .loop in
+    value-in (a .properties .count) (l .i) (a .b .now) (l .at) (k .value-length .result) (k .before .loop-test .taken) (k .value-length .ensures) (l .inv .place)
+
 put-property-at-requires : tie.Need-put-property-at-requires Inv-loop μ-loop
 put-property-at-requires c κs =
-    let b = c .before .before .before .before .before .before .args .b .now in
-    let n = c .before .before .before .before .before .before .args .properties .count in
-    let l = c .before .before .before .loop in
+    let at-value-length = c .before in
+    let at-loop-test = at-value-length .before in
+    let at-loop = at-loop-test .before in
+    let a = at-loop .before .before .before .args in
+    let b = a .b .now in
+    let n = a .properties .count in
+    let l = at-loop .loop in
     let v = l .inv in
-    let h = c .before .before .loop-test .taken in
-    let m = c .before .value-length .result in
-    let g = c .before .value-length .ensures in
-    let inside = value-in n (l .i) b (l .at) m h g (v .place) in
+    let h = at-loop-test .loop-test .taken in
+    let m = at-value-length .value-length .result in
+    let g = at-value-length .value-length .ensures in
+    let e = inside at-value-length in
     let r = length-turn n (l .i) b (l .at) m h g in
     let k = v .room in
     let j = v .long in
-    (g, (value-fits n (l .i) b (l .at) m h g inside (v .accepted), (inside, omega arith)))
+    (g, (value-fits n (l .i) b (l .at) m h g e (v .accepted), (e, omega arith)))
 
 add-at : tie.Need-add-at Inv-loop μ-loop
-add-at c =
-    let at-value-length = c .before .before .before .before in
-    let at-loop-test = at-value-length .before in
-    let at-loop = at-loop-test .before in
-    let start = at-loop .before .before .before in
-    let b = start .args .b .now in
-    let l = at-loop .loop in
-    let g = at-value-length .value-length .ensures in
-    let inside = value-in (start .args .properties .count) (l .i) b (l .at) _ (at-loop-test .loop-test .taken) g (l .inv .place) in
-    search needs
+add-at c = let h = inside (c .before .before .before .before) in search needs
 
 add-at-2 : tie.Need-add-at-2 Inv-loop μ-loop
-add-at-2 c =
-    let at-value-length = c .before .before .before .before in
-    let at-loop-test = at-value-length .before in
-    let at-loop = at-loop-test .before in
-    let start = at-loop .before .before .before in
-    let b = start .args .b .now in
-    let l = at-loop .loop in
-    let g = at-value-length .value-length .ensures in
-    let inside = value-in (start .args .properties .count) (l .i) b (l .at) _ (at-loop-test .loop-test .taken) g (l .inv .place) in
-    search needs
+add-at-2 c = let h = inside (c .before .before .before .before) in search needs
 
 add-i : tie.Need-add-i Inv-loop μ-loop
 add-i c = search needs
@@ -118,7 +112,7 @@ loop-again c =
     let h = at-loop-test .loop-test .taken in
     let m = at-value-length .value-length .result in
     let g = at-value-length .value-length .ensures in
-    let inside = value-in n i b at m h g (v .place) in
+    let e = inside at-value-length in
     let w = c .before .before .put-property-at .ensures in
     let r = length-turn n i b at m h g in
     let k = v .room in
@@ -128,10 +122,10 @@ loop-again c =
     record {
       within = omega arith;
       place = place-next n i b at m h g (v .place);
-      accepted = rest-succeeds n i b at m h g inside (v .accepted);
+      accepted = rest-succeeds n i b at m h g e (v .accepted);
       long = omega arith;
       room = omega arith;
-      rest = v .rest ∙ tail-turn stopped (a .entry) _ n i b at m h g inside (value-fits n i b at m h g inside (v .accepted)) ∙ run-same stopped (a .entry) _ _ _ (put-turn b at _ _ _ _ _ w);
+      rest = v .rest ∙ tail-turn stopped (a .entry) _ n i b at m h g e (value-fits n i b at m h g e (v .accepted)) ∙ run-same stopped (a .entry) _ _ _ (put-turn b at _ _ _ _ _ w);
     }
 
 put-empty-at-requires : tie.Need-put-empty-at-requires Inv-loop μ-loop
