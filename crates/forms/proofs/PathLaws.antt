@@ -103,7 +103,7 @@ module _ (b : List ℕ) where
             path-points f = path-ill (failed path-by f)
 
             pub path-is : (s : PathPlaces) → not r ≡ false → s .layer ≡ numberAt 2 b 1 → s .datatype ≡ numberAt 2 b 3 → s .pathtype ≡ numberAt 1 b 5
-                → s .width ≡ 6 → s .begin ≡ 23 → s .end ≡ 40 → s .count ≡ n → s .points ≡ 59 → BodyRead pathKind b (F.Body (B.Path s) (59 + 34 * n))
+                → s .width ≡ 6 → s .begin ≡ 23 → s .end ≡ 40 → s .points .count ≡ n → s .points .place ≡ 59 → BodyRead pathKind b (F.Body (B.Path s) (59 + 34 * n))
             unfolding bodyForm pathAt
             path-is s f p1 p2 p3 p4 p5 p6 p7 p8 =
                 let within = sized-within (34 * n) (times n point) b 59 (sized-times 34 n point sized-point) h (checked v f) in

@@ -50,7 +50,7 @@ module _ (b : List ℕ) where
     pub shape-points : (t : Bool) → not r ≡ true → BodyRead (kind t) b F.Ill
     shape-points t f = shape-ill b t (failed shape-by f)
 
-    module _ (f : not r ≡ false) (s : ShapePlaces) (p1 : s .layer ≡ numberAt 2 b 1) (p2 : s .datatype ≡ numberAt 2 b 3) (p3 : s .count ≡ n) (p4 : s .points ≡ 7) where
+    module _ (f : not r ≡ false) (s : ShapePlaces) (p1 : s .layer ≡ numberAt 2 b 1) (p2 : s .datatype ≡ numberAt 2 b 3) (p3 : s .points .count ≡ n) (p4 : s .points .place ≡ 7) where
       same : record { layer = numberAt 2 b 1; datatype = numberAt 2 b 3; points = pointsFrom n b 7 } ≡ shapeAt b s
       unfolding shapeAt
       same = rw (p1, p2, p3, p4)

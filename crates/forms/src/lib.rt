@@ -35,21 +35,21 @@ pub const POINT: usize = 34;
 // The bytes of a string's length, of a property's attribute and of a count.
 const NUMBER: usize = 2;
 
-// The kind byte of an element.
-const POLYGON: u8 = 1;
+// The kind byte of an element, which is the kind in its report entry too.
+pub const POLYGON: u8 = 1;
 
-const PATH: u8 = 2;
+pub const PATH: u8 = 2;
 
-const TEXT: u8 = 3;
+pub const TEXT: u8 = 3;
 
-const NODE: u8 = 4;
+pub const NODE: u8 = 4;
 
-const REFERENCE: u8 = 5;
+pub const REFERENCE: u8 = 5;
 
 // The codes: "path type byte (0, 1, 2; 255 absent)", "vertical (0–2), horizontal (0–2), reflection (0 or 1)".
 const MAX_PATH_TYPE: u8 = 2;
 
-const NO_PATH_TYPE: u8 = 255;
+pub const NO_PATH_TYPE: u8 = 255;
 
 const MAX_PRESENTATION: u8 = 2;
 
@@ -132,15 +132,20 @@ pub struct HeadPlaces {
     pub stamps: usize,
 }
 
-// A polygon or a node: its numbers, how many points it has, and the place of the first.
+// How many points there are in a row, and the place of the first.
+pub struct PointsPlaces {
+    pub count: usize,
+    pub place: usize,
+}
+
+// A polygon or a node: its numbers and its points.
 pub struct ShapePlaces {
     pub layer: u16,
     pub datatype: u16,
-    pub count: usize,
-    pub points: usize,
+    pub points: PointsPlaces,
 }
 
-// A path: its numbers, the places of its three lengths, how many points it has, and the place of the first.
+// A path: its numbers, the places of its three lengths, and its points.
 pub struct PathPlaces {
     pub layer: u16,
     pub datatype: u16,
@@ -148,8 +153,7 @@ pub struct PathPlaces {
     pub width: usize,
     pub begin: usize,
     pub end: usize,
-    pub count: usize,
-    pub points: usize,
+    pub points: PointsPlaces,
 }
 
 // A text: its numbers, and the places of its origin and its string.
@@ -402,11 +406,14 @@ fn shape(b: &[u8], node: bool) -> BodyForm
     if !points(b, SHAPE_POINTS, count) {
         return BodyForm::Ill;
     }
+    let places = PointsPlaces {
+        count,
+        place: SHAPE_POINTS,
+    };
     let shape = ShapePlaces {
         layer: big_endian::u16_at(b, LAYER),
         datatype: big_endian::u16_at(b, TYPE),
-        count,
-        points: SHAPE_POINTS,
+        points: places,
     };
     let end = SHAPE_POINTS + POINT * count;
     if node {
@@ -455,6 +462,10 @@ fn path(b: &[u8]) -> BodyForm
     if !points(b, PATH_POINTS, count) {
         return BodyForm::Ill;
     }
+    let places = PointsPlaces {
+        count,
+        place: PATH_POINTS,
+    };
     let path = PathPlaces {
         layer: big_endian::u16_at(b, LAYER),
         datatype: big_endian::u16_at(b, TYPE),
@@ -462,8 +473,7 @@ fn path(b: &[u8]) -> BodyForm
         width: WIDTH,
         begin: BEGIN,
         end: END,
-        count,
-        points: PATH_POINTS,
+        points: places,
     };
     let end = PATH_POINTS + POINT * count;
     BodyForm::Body {

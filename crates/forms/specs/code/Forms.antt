@@ -7,8 +7,11 @@ use Prim.Native.Nat.{ℕ, _+_, _*_, _≤_}
 use lib.Dec.{eqb}
 use lib.ListN.{length}
 use Rattle.big_endian.specs.Big.{numberAt}
+use Rattle.units.specs.declared.Unit.{Unit}
+use Rattle.units.specs.Point.{Point}
 use Rattle.sheet.specs.Element.{Property, Head, Shape, Path, Text, Reference, Body, polygon, path, text, node, reference, Element}
 use Rattle.forms.specs.declared.HeadPlaces.{HeadPlaces}
+use Rattle.forms.specs.declared.PointsPlaces.{PointsPlaces}
 use Rattle.forms.specs.declared.ShapePlaces.{ShapePlaces}
 use Rattle.forms.specs.declared.PathPlaces.{PathPlaces}
 use Rattle.forms.specs.declared.TextPlaces.{TextPlaces}
@@ -28,8 +31,11 @@ use Rattle.forms.specs.code.Place.{placeFrom, wordsFrom, doubleAt, coord
 unfoldable pub headAt : List ℕ → HeadPlaces → Head
 headAt b s = record { name = stringAt b (s .name); stamps = wordsFrom 12 b (s .stamps) }
 
+abbrev pub pointsAt : List ℕ → PointsPlaces → List (Point Unit)
+pointsAt b s = pointsFrom (s .count) b (s .place)
+
 unfoldable pub shapeAt : List ℕ → ShapePlaces → Shape
-shapeAt b s = record { layer = s .layer; datatype = s .datatype; points = pointsFrom (s .count) b (s .points) }
+shapeAt b s = record { layer = s .layer; datatype = s .datatype; points = pointsAt b (s .points) }
 
 -- "path type byte (0, 1, 2; 255 absent)"
 unfoldable pub pathTypeOf : ℕ → Option ℕ
@@ -44,7 +50,7 @@ pathAt b s =
       width = coordinateAt b (s .width);
       begin = coordinateAt b (s .begin);
       end = coordinateAt b (s .end);
-      points = pointsFrom (s .count) b (s .points);
+      points = pointsAt b (s .points);
     }
 
 unfoldable pub textAt : List ℕ → TextPlaces → Text
@@ -119,14 +125,17 @@ pub record HeadIn (b : List ℕ) (s : HeadPlaces) : Type 0 where
   pub name-in : stringEnd b (s .name) ≤ length b
   pub stamps-in : s .stamps + 24 ≤ length b
 
+abbrev pub PointsIn : List ℕ → PointsPlaces → Type 0
+PointsIn b s = s .place + pointLength * s .count ≤ length b
+
 pub record ShapeIn (b : List ℕ) (s : ShapePlaces) : Type 0 where
-  pub points-in : s .points + pointLength * s .count ≤ length b
+  pub points-in : PointsIn b (s .points)
 
 pub record PathIn (b : List ℕ) (s : PathPlaces) : Type 0 where
   pub width-in : s .width + coordinateLength ≤ length b
   pub begin-in : s .begin + coordinateLength ≤ length b
   pub end-in : s .end + coordinateLength ≤ length b
-  pub points-in : s .points + pointLength * s .count ≤ length b
+  pub points-in : PointsIn b (s .points)
 
 pub record TextIn (b : List ℕ) (s : TextPlaces) : Type 0 where
   pub origin-in : s .origin + pointLength ≤ length b
