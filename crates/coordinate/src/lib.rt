@@ -1,7 +1,7 @@
 // One value, and one point: converted to the grid with the element's report entry, and a point into the lent output (`write_points_to_file` of write/mod.rs).
 ghost use mathlib.Core.Path.{_≡_};
 ghost use mathlib.Core.List.{[], _∷_, _++_};
-ghost use Prim.Native.Nat.{_+_, _≤_, _<_};
+ghost use Prim.Native.Nat.{_+_, _≤_};
 ghost use lib.ListN.{length};
 ghost use Rattle.big_endian.specs.Buffer.{WroteAt};
 ghost use Rattle.conversion.specs.code.Answer.{outcome};
@@ -9,9 +9,9 @@ ghost use Rattle.conversion.specs.code.Fold.{Spare};
 ghost use Rattle.conversion.specs.Convert.{Spot, convertUnit};
 ghost use Rattle.conversion.specs.Points.{spot, writePoint};
 ghost use Rattle.stream.specs.Records.{longBytes, xyRecord};
-ghost use Rattle.records.specs.code.Bytes.{Recorded};
+ghost use Rattle.records.specs.code.Bytes.{xyPointLength, Recorded};
 ghost use Rattle.forms.specs.code.Place.{unitAt, pointAt, coordinateLength, pointLength};
-ghost use Rattle.coordinate.specs.code.Coordinate.{GivesValue, GivesPoint, both, plainOf};
+ghost use Rattle.coordinate.specs.code.Coordinate.{GivesValue, GivesPoint, both, plainOf, xyLength};
 use conversion::Conversion;
 use conversion::CoordinateConverter;
 use conversion::Deviation;
@@ -73,24 +73,6 @@ pub fn convert_at(converter: CoordinateConverter, b: &[u8], at: usize) -> Conver
     converter.convert_unit(forms::unit_at(b, at))
 }
 
-// The same, in its place.
-pub fn convert_coordinate(
-    converter: CoordinateConverter,
-    b: &[u8],
-    at: usize,
-    field: u8,
-    axis: u8,
-    place: u16,
-    entry: Entry,
-) -> Valued
-    requires { ⌜ at + coordinateLength ≤ length (now b) ⌝ }
-    requires { ⌜ Spare 1 entry ⌝ }
-    ensures { λ r. ⌜ GivesValue entry (convertUnit (converter .policy) (converter .d) (spot field axis place) (unitAt (now (b .entry)) at)) r ⌝ }
-{
-    let c = convert_at(converter, b, at);
-    record_quantization(c, field, axis, place, entry)
-}
-
 // Both coordinates of a point, in their places, x before y.
 pub fn record_point(cx: Conversion, cy: Conversion, field: u8, place: u16, entry: Entry) -> Pointed
     requires { ⌜ Spare 2 entry ⌝ }
@@ -145,7 +127,7 @@ pub fn convert_point(
 
 // A point's eight bytes.
 pub fn put_point(out: &mut [u8], at: usize, x: i32, y: i32) -> usize
-    requires { ⌜ at + 8 ≤ length (now out) ⌝ }
+    requires { ⌜ at + xyPointLength ≤ length (now out) ⌝ }
     ensures { λ r. ⌜ WroteAt (longBytes x ++ longBytes y) (now (out .entry)) (now (out .exit)) at r ⌝ }
 {
     let a = big_endian::put_i32_at(out, at, x);
@@ -154,8 +136,8 @@ pub fn put_point(out: &mut [u8], at: usize, x: i32, y: i32) -> usize
 
 // XY of one point, at a place.
 pub fn put_xy_at(out: &mut [u8], at: usize, x: i32, y: i32) -> usize
-    requires { ⌜ at + 12 ≤ length (now out) ⌝ }
-    ensures { λ r. ⌜ Recorded (xyRecord (record { x = x; y = y } ∷ [])) 12 (now (out .entry)) (now (out .exit)) at r ⌝ }
+    requires { ⌜ at + xyLength ≤ length (now out) ⌝ }
+    ensures { λ r. ⌜ Recorded (xyRecord (record { x = x; y = y } ∷ [])) xyLength (now (out .entry)) (now (out .exit)) at r ⌝ }
 {
     let a = records::put_head_at(out, at, XY_LENGTH, records::XY, records::FOUR_BYTE);
     put_point(out, a, x, y)

@@ -7,7 +7,7 @@ ghost use lib.ListN.{length};
 ghost use Rattle.big_endian.specs.Big.{bytesOf};
 ghost use Rattle.stream.specs.Records.{emptyRecord, wordRecord, longRecord, realRecord, stringRecord, colrowRecord};
 ghost use Rattle.stream.specs.Strings.{padded};
-ghost use Rattle.records.specs.code.Bytes.{headBytes, sized, stamped, Placed, Recorded, optBytes, optionOf};
+ghost use Rattle.records.specs.code.Bytes.{recordHead, headBytes, sized, stamped, Placed, Recorded, optBytes, optionOf};
 
 // The bytes of a record's head.
 pub const RECORD_HEAD: usize = 4;
@@ -85,10 +85,19 @@ pub const BGNEXTN: u8 = 0x30;
 
 pub const ENDEXTN: u8 = 0x31;
 
+// The bytes of a record's head, of a record of one 2-byte number and of one 4-byte number, and of a point in an XY.
+pub const RECORD_HEAD: usize = 4;
+
+pub const WORD_RECORD: usize = 6;
+
+pub const LONG_RECORD: usize = 8;
+
+pub const XY_POINT: usize = 8;
+
 // A record's head: its length, code and data type (`record_header`).
 pub fn put_head_at(out: &mut [u8], at: usize, len: u16, code: u8, data_type: u8) -> usize
-    requires { ⌜ at + 4 ≤ length (now out) ⌝ }
-    ensures { λ r. ⌜ Placed (headBytes len code «data_type») 4 (now (out .entry)) (now (out .exit)) at r ⌝ }
+    requires { ⌜ at + recordHead ≤ length (now out) ⌝ }
+    ensures { λ r. ⌜ Placed (headBytes len code «data_type») recordHead (now (out .entry)) (now (out .exit)) at r ⌝ }
 {
     let a = big_endian::put_u16_at(out, at, len);
     let b = big_endian::put_u8_at(out, a, code);
@@ -106,8 +115,8 @@ pub fn put_bytes_at(out: &mut [u8], at: usize, s: &[u8]) -> usize
 
 // A record with no data.
 pub fn put_empty_at(out: &mut [u8], at: usize, code: u8) -> usize
-    requires { ⌜ at + 4 ≤ length (now out) ⌝ }
-    ensures { λ r. ⌜ Recorded (emptyRecord code) 4 (now (out .entry)) (now (out .exit)) at r ⌝ }
+    requires { ⌜ at + recordHead ≤ length (now out) ⌝ }
+    ensures { λ r. ⌜ Recorded (emptyRecord code) recordHead (now (out .entry)) (now (out .exit)) at r ⌝ }
 {
     put_head_at(out, at, 4, code, NO_DATA)
 }

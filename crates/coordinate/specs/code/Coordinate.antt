@@ -14,6 +14,7 @@ use Rattle.conversion.specs.Field.{xAxis, yAxis}
 use Rattle.conversion.specs.Made.{Made, pure, _>>=_}
 use Rattle.conversion.specs.code.Fold.{run}
 use Rattle.conversion.specs.Points.{spot}
+use Rattle.records.specs.code.Bytes.{recordHead, xyPointLength}
 use Rattle.coordinate.specs.declared.Valued.{Valued}
 use Rattle.coordinate.specs.declared.Valued.the-variants as G
 use Rattle.coordinate.specs.declared.Plain.{Plain}
@@ -64,3 +65,8 @@ plainOf (C.Converted x) (C.Refused r) = L.No
 plainOf (C.Converted x) (C.Quantized q p e) = L.No
 plainOf (C.Refused r) cy = L.No
 plainOf (C.Quantized q p e) cy = L.No
+
+-- ---- an XY of one point
+
+abbrev pub xyLength : ℕ
+xyLength = recordHead + xyPointLength

@@ -9,6 +9,13 @@ use Rattle.big_endian.specs.Big.{bytesOf}
 use Rattle.big_endian.specs.Buffer.{WroteAt}
 use Rattle.stream.specs.Record.{Rec, twoByte, recordBytes}
 
+-- the bytes of a record's head, and of a point in an XY record
+abbrev pub recordHead : ℕ
+recordHead = 4
+
+abbrev pub xyPointLength : ℕ
+xyPointLength = 8
+
 -- a record's head: its length, code and data type
 abbrev pub headBytes : ℕ → ℕ → ℕ → List ℕ
 headBytes len code dataType = bytesOf 2 len ++ code ∷ dataType ∷ []
