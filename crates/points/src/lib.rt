@@ -6,11 +6,13 @@ ghost use lib.ListN.{length};
 ghost use Rattle.big_endian.specs.Big.{numberAt};
 ghost use Rattle.big_endian.specs.Buffer.{WroteAt};
 ghost use Rattle.sheet.specs.Form.{integerKind};
-ghost use Rattle.conversion.specs.code.Fold.{run};
+ghost use Rattle.conversion.specs.code.Fold.{run, Spare};
 ghost use Rattle.conversion.specs.Points.{writePoints};
 ghost use Rattle.stream.specs.Records.{pointsBytes};
+ghost use Rattle.records.specs.code.Bytes.{xyPointLength};
 ghost use Rattle.steps.specs.code.Steps.{Succeeds, Writes};
 ghost use Rattle.forms.specs.code.Place.{pointsFrom, coordinateLength, pointLength};
+ghost use Rattle.forms.specs.code.Forms.{pointsAt, PointsIn};
 ghost use Rattle.points.specs.declared.Walked.the-variants as W;
 ghost use Rattle.cell.specs.Limits.{maxPoints};
 ghost use Rattle.points.specs.code.Integers.{integerAt, integersFrom, AllPass};
@@ -22,6 +24,7 @@ use coordinate::Plain;
 use coordinate::Pointed;
 use forms::COORDINATE;
 use forms::POINT;
+use forms::PointsPlaces;
 use refusal::Refusal;
 use steps::Written;
 
@@ -55,17 +58,18 @@ fn in_unit(b: &[u8], at: usize, bits: u64) -> bool
     false
 }
 
-// Whether n points pass for sure: a unit with the bits of d equals it, unless it is a NaN. Where the answer is no they may still pass.
-fn all_pass(d: f64, b: &[u8], from: usize, n: usize) -> bool
-    requires { ⌜ from + pointLength * n ≤ length (now b) ⌝ }
-    ensures { λ r. ⌜ (r ≡ true → AllPass d (now (b .entry)) n from) ⌝ }
+// Whether all points pass for sure: a unit with the bits of d equals it, unless it is a NaN. Where the answer is no they may still pass.
+fn all_pass(d: f64, b: &[u8], points: PointsPlaces) -> bool
+    requires { ⌜ PointsIn (now b) points ⌝ }
+    ensures { λ r. ⌜ (r ≡ true → AllPass d (now (b .entry)) (points .count) (points .place)) ⌝ }
 {
     if d != d {
         return false;
     }
     let bits = f64::to_bits(d);
+    let n = points.count;
     let mut i: usize = 0;
-    let mut at = from;
+    let mut at = points.place;
     while i < n {
         if !in_unit(b, at, bits) {
             return false;
@@ -88,15 +92,16 @@ fn integer_at(b: &[u8], at: usize) -> i32
 }
 
 // The ends of the points, with the entry as it is.
-fn integer_ends(b: &[u8], from: usize, n: usize, entry: Entry) -> Walked
-    requires { ⌜ from + pointLength * n ≤ length (now b) ⌝ }
-    requires { ⌜ 1 ≤ n ⌝ }
-    ensures { λ r. ⌜ r ≡ walked (integersFrom n (now (b .entry)) from) entry ⌝ }
+fn integer_ends(b: &[u8], points: PointsPlaces, entry: Entry) -> Walked
+    requires { ⌜ PointsIn (now b) points ⌝ }
+    requires { ⌜ 1 ≤ points .count ⌝ }
+    ensures { λ r. ⌜ r ≡ walked (integersFrom (points .count) (now (b .entry)) (points .place)) entry ⌝ }
 {
-    let last = from + POINT * (n - 1);
+    let first = points.place;
+    let last = first + POINT * (points.count - 1);
     Walked::Through {
-        x0: integer_at(b, from),
-        y0: integer_at(b, from + COORDINATE),
+        x0: integer_at(b, first),
+        y0: integer_at(b, first + COORDINATE),
         x1: integer_at(b, last),
         y1: integer_at(b, last + COORDINATE),
         entry,
@@ -104,11 +109,13 @@ fn integer_ends(b: &[u8], from: usize, n: usize, entry: Entry) -> Walked
 }
 
 // Eight bytes for each point; the place after them.
-fn put_integers(b: &[u8], from: usize, n: usize, out: &mut [u8], start: usize) -> usize
-    requires { ⌜ from + pointLength * n ≤ length (now b) ⌝ }
-    requires { ⌜ start + 8 * n ≤ length (now out) ⌝ }
-    ensures { λ r. ⌜ WroteAt (pointsBytes (integersFrom n (now (b .entry)) from)) (now (out .entry)) (now (out .exit)) start r ⌝ }
+fn put_integers(b: &[u8], points: PointsPlaces, out: &mut [u8], start: usize) -> usize
+    requires { ⌜ PointsIn (now b) points ⌝ }
+    requires { ⌜ start + xyPointLength * points .count ≤ length (now out) ⌝ }
+    ensures { λ r. ⌜ WroteAt (pointsBytes (integersFrom (points .count) (now (b .entry)) (points .place))) (now (out .entry)) (now (out .exit)) start r ⌝ }
 {
+    let from = points.place;
+    let n = points.count;
     let mut i: usize = 0;
     let mut at = from;
     let mut to = start;
@@ -122,24 +129,24 @@ fn put_integers(b: &[u8], from: usize, n: usize, out: &mut [u8], start: usize) -
 
 // ---- measured
 
-// The points from place 1 on, after the first.
+// The points after the first, which is (x0, y0).
 fn measure_rest(
     converter: CoordinateConverter,
     b: &[u8],
-    from: usize,
-    n: usize,
+    points: PointsPlaces,
     x0: i32,
     y0: i32,
     entry: Entry,
 ) -> Walked
-    requires { ⌜ from + pointLength * n ≤ length (now b) + pointLength ⌝ }
-    requires { ⌜ 1 ≤ n ⌝ }
-    requires { ⌜ n ≤ maxPoints ⌝ }
-    requires { ⌜ entry .count ≤ 18 ⌝ }
-    ensures { λ r. ⌜ r ≡ run W.Refused entry (writePoints (converter .policy) (converter .d) 1 (pointsFrom (n - 1) (now (b .entry)) from)) (through (record { x = x0; y = y0 }) (record { x = x0; y = y0 })) ⌝ }
+    requires { ⌜ PointsIn (now b) points ⌝ }
+    requires { ⌜ 1 ≤ points .count ⌝ }
+    requires { ⌜ points .count ≤ maxPoints ⌝ }
+    requires { ⌜ Spare (2 * (points .count - 1)) entry ⌝ }
+    ensures { λ r. ⌜ r ≡ run W.Refused entry (writePoints (converter .policy) (converter .d) 1 (pointsFrom (points .count - 1) (now (b .entry)) (points .place + pointLength))) (through (record { x = x0; y = y0 }) (record { x = x0; y = y0 })) ⌝ }
 {
+    let n = points.count;
     let mut i: usize = 1;
-    let mut at = from;
+    let mut at = points.place + POINT;
     let mut x1 = x0;
     let mut y1 = y0;
     let mut e = entry;
@@ -174,26 +181,25 @@ fn measure_rest(
     }
 }
 
-// All points: the first refusal, or the ends and the entry. An element converts at most three lengths before its points.
+// All points: the first refusal, or the ends and the entry.
 pub fn measure_points(
     converter: CoordinateConverter,
     b: &[u8],
-    from: usize,
-    n: usize,
+    points: PointsPlaces,
     entry: Entry,
 ) -> Walked
-    requires { ⌜ from + pointLength * n ≤ length (now b) ⌝ }
-    requires { ⌜ 1 ≤ n ⌝ }
-    requires { ⌜ n ≤ maxPoints ⌝ }
-    requires { ⌜ entry .count ≤ 16 ⌝ }
-    ensures { λ r. ⌜ r ≡ run W.Refused entry (writePoints (converter .policy) (converter .d) 0 (pointsFrom n (now (b .entry)) from)) walked ⌝ }
+    requires { ⌜ PointsIn (now b) points ⌝ }
+    requires { ⌜ 1 ≤ points .count ⌝ }
+    requires { ⌜ points .count ≤ maxPoints ⌝ }
+    requires { ⌜ Spare (2 * points .count) entry ⌝ }
+    ensures { λ r. ⌜ r ≡ run W.Refused entry (writePoints (converter .policy) (converter .d) 0 (pointsAt (now (b .entry)) points)) walked ⌝ }
 {
-    if all_pass(converter.d, b, from, n) {
-        return integer_ends(b, from, n, entry);
+    if all_pass(converter.d, b, points) {
+        return integer_ends(b, points, entry);
     }
-    match coordinate::convert_point(converter, b, from, POINT_FIELD, 0, entry) {
+    match coordinate::convert_point(converter, b, points.place, POINT_FIELD, 0, entry) {
         Pointed::Refused { refusal } => Walked::Refused { refusal },
-        Pointed::At { x, y, entry: e } => measure_rest(converter, b, from + POINT, n, x, y, e),
+        Pointed::At { x, y, entry: e } => measure_rest(converter, b, points, x, y, e),
     }
 }
 
@@ -203,21 +209,21 @@ pub fn measure_points(
 fn put_converted(
     converter: CoordinateConverter,
     b: &[u8],
-    from: usize,
-    n: usize,
+    points: PointsPlaces,
     out: &mut [u8],
     start: usize,
     entry: Entry,
 ) -> Written
-    requires { ⌜ from + pointLength * n ≤ length (now b) ⌝ }
-    requires { ⌜ n ≤ maxPoints ⌝ }
-    requires { ⌜ Succeeds (writePoints (converter .policy) (converter .d) 0 (pointsFrom n (now b) from)) ⌝ }
-    requires { ⌜ start + 8 * n ≤ length (now out) ⌝ }
-    requires { ⌜ entry .count ≤ 16 ⌝ }
-    ensures { λ r. ⌜ Writes pointsBytes entry (writePoints (converter .policy) (converter .d) 0 (pointsFrom n (now (b .entry)) from)) start (now (out .entry)) (now (out .exit)) r ⌝ }
+    requires { ⌜ PointsIn (now b) points ⌝ }
+    requires { ⌜ points .count ≤ maxPoints ⌝ }
+    requires { ⌜ Succeeds (writePoints (converter .policy) (converter .d) 0 (pointsAt (now b) points)) ⌝ }
+    requires { ⌜ start + xyPointLength * points .count ≤ length (now out) ⌝ }
+    requires { ⌜ Spare (2 * points .count) entry ⌝ }
+    ensures { λ r. ⌜ Writes pointsBytes entry (writePoints (converter .policy) (converter .d) 0 (pointsAt (now (b .entry)) points)) start (now (out .entry)) (now (out .exit)) r ⌝ }
 {
+    let n = points.count;
     let mut i: usize = 0;
-    let mut at = from;
+    let mut at = points.place;
     let mut to = start;
     let mut e = entry;
     while i < n {
@@ -248,24 +254,23 @@ fn put_converted(
 pub fn put_points(
     converter: CoordinateConverter,
     b: &[u8],
-    from: usize,
-    n: usize,
+    points: PointsPlaces,
     out: &mut [u8],
     start: usize,
     entry: Entry,
 ) -> Written
-    requires { ⌜ from + pointLength * n ≤ length (now b) ⌝ }
-    requires { ⌜ n ≤ maxPoints ⌝ }
-    requires { ⌜ Succeeds (writePoints (converter .policy) (converter .d) 0 (pointsFrom n (now b) from)) ⌝ }
-    requires { ⌜ start + 8 * n ≤ length (now out) ⌝ }
-    requires { ⌜ entry .count ≤ 16 ⌝ }
-    ensures { λ r. ⌜ Writes pointsBytes entry (writePoints (converter .policy) (converter .d) 0 (pointsFrom n (now (b .entry)) from)) start (now (out .entry)) (now (out .exit)) r ⌝ }
+    requires { ⌜ PointsIn (now b) points ⌝ }
+    requires { ⌜ points .count ≤ maxPoints ⌝ }
+    requires { ⌜ Succeeds (writePoints (converter .policy) (converter .d) 0 (pointsAt (now b) points)) ⌝ }
+    requires { ⌜ start + xyPointLength * points .count ≤ length (now out) ⌝ }
+    requires { ⌜ Spare (2 * points .count) entry ⌝ }
+    ensures { λ r. ⌜ Writes pointsBytes entry (writePoints (converter .policy) (converter .d) 0 (pointsAt (now (b .entry)) points)) start (now (out .entry)) (now (out .exit)) r ⌝ }
 {
-    if all_pass(converter.d, b, from, n) {
+    if all_pass(converter.d, b, points) {
         return Written {
-            to: put_integers(b, from, n, out, start),
+            to: put_integers(b, points, out, start),
             entry,
         };
     }
-    put_converted(converter, b, from, n, out, start, entry)
+    put_converted(converter, b, points, out, start, entry)
 }

@@ -19,10 +19,10 @@ record Inv (d : Float) (b : List ℕ) (from n i at : ℕ) : Type 0 where
   rest : AllPass d b (n - i) at → AllPass d b n from
 
 abbrev Inv-loop : tie.InvT-loop
-Inv-loop d b from n bits i₀ at₀ i at = Inv d b from n i at
+Inv-loop d b bits n i₀ at₀ i at = Inv d b at₀ n i at
 
 abbrev μ-loop : tie.MeasureT-loop
-μ-loop d b from n bits i₀ at₀ i at = n - i
+μ-loop d b bits n i₀ at₀ i at = n - i
 
 returns : tie.Need-returns Inv-loop μ-loop
 returns c = λ h. absurd (true≢false (sym h))
@@ -31,7 +31,7 @@ float-to-bits-bits : tie.Need-float-to-bits-bits Inv-loop μ-loop
 float-to-bits-bits c = same-no-nan (c .before .before .args .d) (c .if1 .left)
 
 loop-holds : tie.Need-loop-holds Inv-loop μ-loop
-loop-holds c = let a = c .before .before .args in record { within = search needs; place = search needs; rest = all-start (a .d) (a .b .now) (a .n) (a .from) }
+loop-holds c = let a = c .before .before .args in record { within = search needs; place = search needs; rest = all-start (a .d) (a .b .now) (a .points .count) (a .points .place) }
 
 in-unit-requires : tie.Need-in-unit-requires Inv-loop μ-loop
 in-unit-requires c κs = search needs
@@ -74,11 +74,11 @@ loop-again c =
     record {
       within = search needs;
       place = search needs;
-      rest = λ h. v .rest (all-turn (a .d) (a .b .now) (a .n) (l .i) (l .at) (at-loop-test .loop-test .taken) (bits-pass (a .d) F N (a .b .now) (l .at) (x .0) (x .1)) (bits-pass (a .d) F N (a .b .now) (l .at + 17) (y .0) (y .1)) h);
+      rest = λ h. v .rest (all-turn (a .d) (a .b .now) (a .points .count) (l .i) (l .at) (at-loop-test .loop-test .taken) (bits-pass (a .d) F N (a .b .now) (l .at) (x .0) (x .1)) (bits-pass (a .d) F N (a .b .now) (l .at + 17) (y .0) (y .1)) h);
     }
 
 returns-4 : tie.Need-returns-4 Inv-loop μ-loop
-returns-4 c = λ h. let a = c .before .before .before .before .args in let l = c .before .loop in l .inv .rest (all-end (a .d) (a .b .now) (a .n) (l .i) (l .at) (c .loop-test .left))
+returns-4 c = λ h. let a = c .before .before .before .before .args in let l = c .before .loop in l .inv .rest (all-end (a .d) (a .b .now) (a .points .count) (l .i) (l .at) (c .loop-test .left))
 
 pub all-pass-spec : {M : Type 1} → statement M
 all-pass-spec =

@@ -38,7 +38,8 @@ integer-at-requires-4 c κs = search needs
 
 returns : tie.Need-returns
 returns c =
-    let a = c .before .before .before .before .before .args in
+    let start = c .before .before .before .before .before .before in
+    let a = start .args in
     let x0 = c .before .before .before .integer-at in
     let y0 = c .before .before .integer-at2 in
     let x1 = c .before .integer-at3 in
@@ -47,7 +48,7 @@ returns c =
     let g0 : SFits w32 (y0 .result) = search needs in
     let f1 : SFits w32 (x1 .result) = search needs in
     let g1 : SFits w32 (y1 .result) = search needs in
-    ends-are (a .b .now) (a .n) (a .from) (a .from + 34 * (a .n - 1)) (a .entry) _ _ _ _ (c .before .before .before .before .before .pre .1) refl
+    ends-are (a .b .now) (a .points .count) (a .points .place) (a .points .place + 34 * (a .points .count - 1)) (a .entry) _ _ _ _ (start .pre .1) refl
     (toZ-ofZ w32 (x0 .result) f0 ∙ x0 .ensures)
     (toZ-ofZ w32 (y0 .result) g0 ∙ y0 .ensures)
     (toZ-ofZ w32 (x1 .result) f1 ∙ x1 .ensures)

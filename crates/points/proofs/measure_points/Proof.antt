@@ -28,7 +28,7 @@ returns : tie.Need-returns
 returns c =
     let a = c .before .before .before .before .args in
     let h = c .before .before .all-pass .ensures (c .before .if1 .taken) in
-    c .integer-ends .ensures ∙ sym (pass-measured (a .converter .policy) (a .converter .d) (a .b .now) (a .n) (a .from) h (a .entry))
+    c .integer-ends .ensures ∙ sym (pass-measured (a .converter .policy) (a .converter .d) (a .b .now) (a .points .count) (a .points .place) h (a .entry))
 
 convert-point-requires : tie.Need-convert-point-requires
 convert-point-requires c κs = search needs
@@ -38,9 +38,6 @@ enum-known-refusal c = search needs
 
 enum-known-x : tie.Need-enum-known-x
 enum-known-x c = search needs
-
-add-measure-rest : tie.Need-add-measure-rest
-add-measure-rest c = search needs
 
 measure-rest-requires : tie.Need-measure-rest-requires
 measure-rest-requires c κs =
@@ -56,7 +53,7 @@ returns-2 c =
     let p = c .before .before .before .before .before .before .before .pre in
     let r = c .before .before .before .convert-point in
     let g = c .before .refusal .given in
-    sym (whole-first W.Refused (a .converter .policy) (a .converter .d) (a .n) 0 (a .b .now) (a .from) (a .entry) walked ∙ go-stop W.Refused (a .converter .policy) (a .converter .d) (a .n) 0 (a .b .now) (a .from) (a .entry) walked (p .1 .0) (r .result) (r .ensures) (g .0 .0) (g .1))
+    sym (whole-first W.Refused (a .converter .policy) (a .converter .d) (a .points .count) 0 (a .b .now) (a .points .place) (a .entry) walked ∙ go-stop W.Refused (a .converter .policy) (a .converter .d) (a .points .count) 0 (a .b .now) (a .points .place) (a .entry) walked (p .1 .0) (r .result) (r .ensures) (g .0 .0) (g .1))
 
 returns-3 : tie.Need-returns-3
 unfolding walked
@@ -73,8 +70,8 @@ returns-3 c =
     let fx : SFits w32 x = search needs in
     let fy : SFits w32 y = search needs in
     c .measure-rest .ensures
-    ∙ ap (λ (q : Point ℤ). run W.Refused e (writePoints (a .converter .policy) (a .converter .d) 1 (pointsFrom (a .n - 1) (a .b .now) (a .from + 34))) (through q q)) (point-back x y fx fy)
-    ∙ sym (whole-first W.Refused (a .converter .policy) (a .converter .d) (a .n) 0 (a .b .now) (a .from) (a .entry) walked ∙ go-on W.Refused (a .converter .policy) (a .converter .d) (a .n) 0 (a .b .now) (a .from) (a .entry) walked (p .1 .0) (r .result) (r .ensures) x y e (g .1))
+    ∙ ap (λ (q : Point ℤ). run W.Refused e (writePoints (a .converter .policy) (a .converter .d) 1 (pointsFrom (a .points .count - 1) (a .b .now) (a .points .place + 34))) (through q q)) (point-back x y fx fy)
+    ∙ sym (whole-first W.Refused (a .converter .policy) (a .converter .d) (a .points .count) 0 (a .b .now) (a .points .place) (a .entry) walked ∙ go-on W.Refused (a .converter .policy) (a .converter .d) (a .points .count) 0 (a .b .now) (a .points .place) (a .entry) walked (p .1 .0) (r .result) (r .ensures) x y e (g .1))
 
 pub measure-points-spec : {M : Type 1} → statement M
 measure-points-spec =
@@ -86,7 +83,6 @@ measure-points-spec =
     convert-point-requires
     enum-known-refusal
     enum-known-x
-    add-measure-rest
     measure-rest-requires
     returns-2
     returns-3)

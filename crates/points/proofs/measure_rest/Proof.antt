@@ -12,7 +12,7 @@ use mir.Syntax.{w32}
 use Rattle.units.specs.Point.{Point}
 use Rattle.conversion.specs.declared.Entry.{Entry}
 use Rattle.conversion.specs.declared.GdsRoundingPolicy.{GdsRoundingPolicy}
-use Rattle.conversion.specs.code.Fold.{run}
+use Rattle.conversion.specs.code.Fold.{run, Spare}
 use Rattle.conversion.specs.Points.{writePoint, writePoints}
 use Rattle.forms.specs.code.Place.{pointAt, pointsFrom}
 use Rattle.coordinate.specs.declared.Pointed.the-variants as P
@@ -33,17 +33,20 @@ record Inv (policy : GdsRoundingPolicy) (d : Float) (b : List ℕ) (from n x0 y0
   from1 : 1 ≤ i
   within : i ≤ n
   place : at + 34 ≡ from + 34 * i
-  small : e .count ≤ 18 + 2 * i
+  spare : Spare (2 * (n - i)) e
   rest : left policy d b n 1 from e₀ (pointOf x0 y0) (pointOf x0 y0) ≡ left policy d b n i at e (pointOf x0 y0) (pointOf x1 y1)
 
 abbrev Inv-loop : tie.InvT-loop
-Inv-loop converter b from n x0 y0 i₀ at₀ x1₀ y1₀ e₀ i at x1 y1 e = Inv (converter .policy) (converter .d) b from n x0 y0 e₀ i at x1 y1 e
+Inv-loop converter b x0 y0 n i₀ at₀ x1₀ y1₀ e₀ i at x1 y1 e = Inv (converter .policy) (converter .d) b at₀ n x0 y0 e₀ i at x1 y1 e
 
 abbrev μ-loop : tie.MeasureT-loop
-μ-loop converter b from n x0 y0 i₀ at₀ x1₀ y1₀ e₀ i at x1 y1 e = n - i
+μ-loop converter b x0 y0 n i₀ at₀ x1₀ y1₀ e₀ i at x1 y1 e = n - i
 
 loop-holds : tie.Need-loop-holds Inv-loop μ-loop
-loop-holds c = record { from1 = search needs; within = search needs; place = search needs; small = search needs; rest = refl }
+loop-holds c = record { from1 = search needs; within = search needs; place = search needs; spare = search needs; rest = refl }
+
+add-at : tie.Need-add-at Inv-loop μ-loop
+add-at c = search needs
 
 convert-at-requires : tie.Need-convert-at-requires Inv-loop μ-loop
 convert-at-requires c κs = search needs
@@ -80,7 +83,7 @@ returns c =
     let at-convert-at = at-convert-at2 .before in
     let at-loop-test = at-convert-at .before in
     let at-loop = at-loop-test .before in
-    let start = at-loop .before .before in
+    let start = at-loop .before .before .before in
     let a = start .args in
     let f = start .fits in
     let l = at-loop .loop in
@@ -90,20 +93,24 @@ returns c =
     let h = point-recorded (a .converter .policy) (a .converter .d) (pointAt (a .b .now) (l .at)) (x .result) (y .result) (x .ensures) (y .ensures) 0 (l .i) (l .e) (r .result) (r .ensures) in
     let g = c .before .refusal .given in
     sym
-    (sym (ap (λ (p : Point ℤ). left (a .converter .policy) (a .converter .d) (a .b .now) (a .n) 1 (a .from) (a .entry) p p) (point-back (a .x0) (a .y0) (f .x0) (f .y0)))
+    (sym (ap (λ (p : Point ℤ). left (a .converter .policy) (a .converter .d) (a .b .now) (a .points .count) 1 (a .points .place + 34) (a .entry) p p) (point-back (a .x0) (a .y0) (f .x0) (f .y0)))
     ∙ l .inv .rest
-    ∙ go-stop W.Refused (a .converter .policy) (a .converter .d) (a .n) (l .i) (a .b .now) (l .at) (l .e) (through (pointOf (ofZ w32 (a .x0)) (ofZ w32 (a .y0))) (pointOf (l .x1) (l .y1))) (at-loop-test .loop-test .taken) (r .result) h (g .0 .0) (g .1))
+    ∙ go-stop W.Refused (a .converter .policy) (a .converter .d) (a .points .count) (l .i) (a .b .now) (l .at) (l .e) (through (pointOf (ofZ w32 (a .x0)) (ofZ w32 (a .y0))) (pointOf (l .x1) (l .y1))) (at-loop-test .loop-test .taken) (r .result) h (g .0 .0) (g .1))
 
 enum-known-x-2 : tie.Need-enum-known-x-2 Inv-loop μ-loop
 enum-known-x-2 c = search needs
 
 -- where the ways through the loop's body meet: the point by its values, with the entry after it
-met : (c : tie.At-match-came Inv-loop μ-loop) → GivesPoint (c .before .before .before .before .before .loop .e) (writePoint (c .before .before .before .before .before .before .before .args .converter .policy) (c .before .before .before .before .before .before .before .args .converter .d) 0 (c .before .before .before .before .before .loop .i) (pointAt (c .before .before .before .before .before .before .before .args .b .now) (c .before .before .before .before .before .loop .at)))
-    (P.At (toZ w32 (c .match .x1)) (toZ w32 (c .match .y1)) (c .match .e))
+met : (c : tie.At-match-came Inv-loop μ-loop) →
+    let at-loop = c .before .before .before .before .before in
+    let a = at-loop .before .before .before .args in
+    let l = at-loop .loop in
+    GivesPoint (l .e) (writePoint (a .converter .policy) (a .converter .d) 0 (l .i) (pointAt (a .b .now) (l .at))) (P.At (toZ w32 (c .match .x1)) (toZ w32 (c .match .y1)) (c .match .e))
 unfolding pointAt
 met c =
-    let a = c .before .before .before .before .before .before .before .args in
-    let l = c .before .before .before .before .before .loop in
+    let at-loop = c .before .before .before .before .before in
+    let a = at-loop .before .before .before .args in
+    let l = at-loop .loop in
     let x = c .before .before .before .convert-at in
     let y = c .before .before .convert-at2 in
     let p = c .before .plain-point in
@@ -123,8 +130,8 @@ met c =
     (g .0 .0) (g .0 .1 .0) (g .0 .1 .1 .0) (g .1) fx fy (w .6) (w .7) (w .8))
     (c .match .came)
 
-add-at : tie.Need-add-at Inv-loop μ-loop
-add-at c = search needs
+add-at-2 : tie.Need-add-at-2 Inv-loop μ-loop
+add-at-2 c = search needs
 
 add-i : tie.Need-add-i Inv-loop μ-loop
 add-i c = search needs
@@ -135,8 +142,10 @@ loop-less c = search needs
 loop-again : tie.Need-loop-again Inv-loop μ-loop
 unfolding through
 loop-again c =
-    let a = c .before .before .before .before .before .before .before .args in
-    let l = c .before .before .before .before .before .loop in
+    let at-loop-test = c .before .before .before .before in
+    let at-loop = at-loop-test .before in
+    let a = at-loop .before .before .before .args in
+    let l = at-loop .loop in
     let v = l .inv in
     let t = met c in
     let k : c .match .e .count ≤ l .e .count + 2 = t .grown in
@@ -144,21 +153,23 @@ loop-again c =
       from1 = search needs;
       within = search needs;
       place = omega arith;
-      small = omega arith;
+      spare = omega arith;
       rest = v .rest
-          ∙ go-on W.Refused (a .converter .policy) (a .converter .d) (a .n) (l .i) (a .b .now) (l .at) (l .e) (through (pointOf (ofZ w32 (a .x0)) (ofZ w32 (a .y0))) (pointOf (l .x1) (l .y1))) (c .before .before .before .before .loop-test .taken) _ t (toZ w32 (c .match .x1)) (toZ w32 (c .match .y1)) (c .match .e) refl;
+          ∙ go-on W.Refused (a .converter .policy) (a .converter .d) (a .points .count) (l .i) (a .b .now) (l .at) (l .e) (through (pointOf (ofZ w32 (a .x0)) (ofZ w32 (a .y0))) (pointOf (l .x1) (l .y1))) (at-loop-test .loop-test .taken) _ t (toZ w32 (c .match .x1)) (toZ w32 (c .match .y1)) (c .match .e) refl;
     }
 
 returns-2 : tie.Need-returns-2 Inv-loop μ-loop
 unfolding through
 returns-2 c =
-    let a = c .before .before .before .args in
-    let f = c .before .before .before .fits in
-    let l = c .before .loop in
+    let at-loop = c .before in
+    let start = at-loop .before .before .before in
+    let a = start .args in
+    let f = start .fits in
+    let l = at-loop .loop in
     sym
-    (sym (ap (λ (p : Point ℤ). left (a .converter .policy) (a .converter .d) (a .b .now) (a .n) 1 (a .from) (a .entry) p p) (point-back (a .x0) (a .y0) (f .x0) (f .y0)))
+    (sym (ap (λ (p : Point ℤ). left (a .converter .policy) (a .converter .d) (a .b .now) (a .points .count) 1 (a .points .place + 34) (a .entry) p p) (point-back (a .x0) (a .y0) (f .x0) (f .y0)))
     ∙ l .inv .rest
-    ∙ go-end W.Refused (a .converter .policy) (a .converter .d) (a .n) (l .i) (a .b .now) (l .at) (l .e) (through (pointOf (ofZ w32 (a .x0)) (ofZ w32 (a .y0))) (pointOf (l .x1) (l .y1))) (c .loop-test .left))
+    ∙ go-end W.Refused (a .converter .policy) (a .converter .d) (a .points .count) (l .i) (a .b .now) (l .at) (l .e) (through (pointOf (ofZ w32 (a .x0)) (ofZ w32 (a .y0))) (pointOf (l .x1) (l .y1))) (c .loop-test .left))
 
 pub measure-rest-spec : {M : Type 1} → statement M
 measure-rest-spec =
@@ -166,6 +177,7 @@ measure-rest-spec =
     (tie.spec
     Inv-loop
     μ-loop
+    add-at
     loop-holds
     convert-at-requires
     add-convert-at
@@ -178,7 +190,7 @@ measure-rest-spec =
     enum-known-refusal
     returns
     enum-known-x-2
-    add-at
+    add-at-2
     add-i
     loop-less
     loop-again

@@ -12,7 +12,7 @@ use mir.Syntax.{w32}
 use Rattle.big_endian.proofs.BufferLaws.{length-at}
 use Rattle.conversion.specs.declared.Entry.{Entry}
 use Rattle.conversion.specs.declared.GdsRoundingPolicy.{GdsRoundingPolicy}
-use Rattle.conversion.specs.code.Fold.{run}
+use Rattle.conversion.specs.code.Fold.{run, Spare}
 use Rattle.conversion.specs.Points.{writePoint, writePoints}
 use Rattle.conversion.proofs.FoldLaws.{run-same}
 use Rattle.stream.specs.Records.{pointsBytes}
@@ -34,25 +34,29 @@ record Inv (policy : GdsRoundingPolicy) (d : Float) (b : List ℕ) (from n : ℕ
   count : to ≡ start + 8 * i
   accepted : Succeeds (writePoints policy d i (pointsFrom (n - i) b at))
   long : length out ≡ length out₀
-  small : e .count ≤ 16 + 2 * i
+  spare : Spare (2 * (n - i)) e
   rest : run stopped e₀ (writePoints policy d 0 (pointsFrom n b from)) (putting pointsBytes start out₀) ≡ left policy d b n i at e to out
 
 abbrev Inv-loop : tie.InvT-loop
-Inv-loop converter b from n out₀ start i₀ at₀ to₀ e₀ out i at to e = Inv (converter .policy) (converter .d) b from n out₀ start e₀ out i at to e
+Inv-loop converter b out₀ start n i₀ at₀ to₀ e₀ out i at to e = Inv (converter .policy) (converter .d) b at₀ n out₀ start e₀ out i at to e
 
 abbrev μ-loop : tie.MeasureT-loop
-μ-loop converter b from n out₀ start i₀ at₀ to₀ e₀ out i at to e = n - i
+μ-loop converter b out₀ start n i₀ at₀ to₀ e₀ out i at to e = n - i
 
 none-yet : (n : ℕ) → n ≡ n - 0
 none-yet n = omega arith
 
 -- where the ways through the loop's body meet: the point converted and put
-met : (c : tie.At-match-came Inv-loop μ-loop) → Turn (c .before .before .before .before .before .loop .e) (writePoint (c .before .before .before .before .before .before .before .before .args .converter .policy) (c .before .before .before .before .before .before .before .before .args .converter .d) 0 (c .before .before .before .before .before .loop .i) (pointAt (c .before .before .before .before .before .before .before .before .args .b .now) (c .before .before .before .before .before .loop .at)))
-    (c .before .before .before .before .before .loop .to) (c .before .before .before .before .before .loop .out) (c .match .to) (c .match .out) (c .match .e)
+met : (c : tie.At-match-came Inv-loop μ-loop) →
+    let at-loop = c .before .before .before .before .before in
+    let a = at-loop .before .before .before .args in
+    let l = at-loop .loop in
+    Turn (l .e) (writePoint (a .converter .policy) (a .converter .d) 0 (l .i) (pointAt (a .b .now) (l .at))) (l .to) (l .out) (c .match .to) (c .match .out) (c .match .e)
 unfolding pointAt
 met c =
-    let a = c .before .before .before .before .before .before .before .before .args in
-    let l = c .before .before .before .before .before .loop in
+    let at-loop = c .before .before .before .before .before in
+    let a = at-loop .before .before .before .args in
+    let l = at-loop .loop in
     let x = c .before .before .before .convert-at in
     let y = c .before .before .convert-at2 in
     let p = c .before .plain-point in
@@ -76,12 +80,17 @@ met c =
 never : {X : Type 0} (c : tie.After-enum-told2 Inv-loop μ-loop) → X
 unfolding pointAt
 never c =
-    let a = c .before .before .before .before .before .before .before .before .before .before .before .before .args in
-    let l = c .before .before .before .before .before .before .before .before .before .loop in
-    let x = c .before .before .before .before .before .before .before .convert-at in
-    let y = c .before .before .before .before .before .before .convert-at2 in
-    let r = c .before .before .record-point in
-    never-pointed (first-succeeds (a .converter .policy) (a .converter .d) (a .n) (l .i) (a .b .now) (l .at) (c .before .before .before .before .before .before .before .before .loop-test .taken) (l .inv .accepted) .point)
+    let at-record-point = c .before .before in
+    let at-convert-at2 = at-record-point .before .before .before .before in
+    let at-convert-at = at-convert-at2 .before in
+    let at-loop-test = at-convert-at .before in
+    let at-loop = at-loop-test .before in
+    let a = at-loop .before .before .before .args in
+    let l = at-loop .loop in
+    let x = at-convert-at .convert-at in
+    let y = at-convert-at2 .convert-at2 in
+    let r = at-record-point .record-point in
+    never-pointed (first-succeeds (a .converter .policy) (a .converter .d) (a .points .count) (l .i) (a .b .now) (l .at) (at-loop-test .loop-test .taken) (l .inv .accepted) .point)
     (point-recorded (a .converter .policy) (a .converter .d) (pointAt (a .b .now) (l .at)) (x .result) (y .result) (x .ensures) (y .ensures) 0 (l .i) (l .e) (r .result) (r .ensures)) (c .enum-told2 .given .1)
 
 loop-holds : tie.Need-loop-holds Inv-loop μ-loop
@@ -92,10 +101,10 @@ loop-holds c =
       within = search needs;
       place = search needs;
       count = search needs;
-      accepted = subst (λ (j : ℕ). Succeeds (writePoints (a .converter .policy) (a .converter .d) 0 (pointsFrom j (a .b .now) (a .from)))) (none-yet (a .n)) (s .pre .1 .1 .0);
+      accepted = subst (λ (j : ℕ). Succeeds (writePoints (a .converter .policy) (a .converter .d) 0 (pointsFrom j (a .b .now) (a .points .place)))) (none-yet (a .points .count)) (s .pre .1 .1 .0);
       long = refl;
-      small = search needs;
-      rest = whole-first stopped (a .converter .policy) (a .converter .d) (a .n) 0 (a .b .now) (a .from) (a .entry) (putting pointsBytes (a .start) (a .out .now));
+      spare = search needs;
+      rest = whole-first stopped (a .converter .policy) (a .converter .d) (a .points .count) 0 (a .b .now) (a .points .place) (a .entry) (putting pointsBytes (a .start) (a .out .now));
     }
 
 convert-at-requires : tie.Need-convert-at-requires Inv-loop μ-loop
@@ -139,11 +148,14 @@ enum-known-x-2 c = search needs
 
 put-point-requires-2 : tie.Need-put-point-requires-2 Inv-loop μ-loop
 put-point-requires-2 c κs =
-    let l = c .before .before .before .before .before .before .before .before .before .before .before .loop in
-    let t = c .before .before .before .before .before .before .before .before .before .before .loop-test .taken in
+    let at-record-point = c .before .before .before .before in
+    let at-loop-test = at-record-point .before .before .before .before .before .before in
+    let at-loop = at-loop-test .before in
+    let l = at-loop .loop in
+    let t = at-loop-test .loop-test .taken in
     let i = l .inv .count in
     let j = l .inv .long in
-    let k = c .before .before .before .before .before .before .before .before .before .before .before .before .before .before .pre .1 .1 .1 .0 in
+    let room = at-loop .before .before .before .pre .1 .1 .1 .0 in
     omega arith
 
 add-at : tie.Need-add-at Inv-loop μ-loop
@@ -157,25 +169,27 @@ loop-less c = search needs
 
 loop-again : tie.Need-loop-again Inv-loop μ-loop
 loop-again c =
-    let a = c .before .before .before .before .before .before .before .before .args in
-    let l = c .before .before .before .before .before .loop in
+    let at-loop-test = c .before .before .before .before in
+    let at-loop = at-loop-test .before in
+    let a = at-loop .before .before .before .args in
+    let l = at-loop .loop in
     let v = l .inv in
     let m = c .match in
     let t = met c in
     let k : m .e .count ≤ l .e .count + 2 = t .converts .grown in
     let w = t .wrote in
     let j = w .count in
-    let h = c .before .before .before .before .loop-test .taken in
+    let h = at-loop-test .loop-test .taken in
     record {
       within = search needs;
       place = omega arith;
       count = omega arith;
-      accepted = first-succeeds (a .converter .policy) (a .converter .d) (a .n) (l .i) (a .b .now) (l .at) h (v .accepted) .rest;
+      accepted = first-succeeds (a .converter .policy) (a .converter .d) (a .points .count) (l .i) (a .b .now) (l .at) h (v .accepted) .rest;
       long = length-at w ∙ v .long;
-      small = omega arith;
+      spare = omega arith;
       rest = v .rest
-          ∙ go-on stopped (a .converter .policy) (a .converter .d) (a .n) (l .i) (a .b .now) (l .at) (l .e) (putting pointsBytes (l .to) (l .out)) h _ (t .converts) (t .x) (t .y) (m .e) refl
-          ∙ run-same stopped (m .e) (writePoints (a .converter .policy) (a .converter .d) (l .i + 1) (pointsFrom (a .n - (l .i + 1)) (a .b .now) (l .at + 34))) _ _ (put-turn (t .x) (t .y) w);
+          ∙ go-on stopped (a .converter .policy) (a .converter .d) (a .points .count) (l .i) (a .b .now) (l .at) (l .e) (putting pointsBytes (l .to) (l .out)) h _ (t .converts) (t .x) (t .y) (m .e) refl
+          ∙ run-same stopped (m .e) (writePoints (a .converter .policy) (a .converter .d) (l .i + 1) (pointsFrom (a .points .count - (l .i + 1)) (a .b .now) (l .at + 34))) _ _ (put-turn (t .x) (t .y) w);
     }
 
 same-length-2 : tie.Need-same-length-2 Inv-loop μ-loop
@@ -189,8 +203,8 @@ returns-2 c =
     let i = v .within in
     let j = v .count in
     let room = c .before .before .before .before .pre .1 .1 .1 .0 in
-    writes pointsBytes (a .entry) (writePoints (a .converter .policy) (a .converter .d) 0 (pointsFrom (a .n) (a .b .now) (a .from))) (a .start) (a .out .now) (l .out) (l .to) (l .e)
-    (v .rest ∙ go-end stopped (a .converter .policy) (a .converter .d) (a .n) (l .i) (a .b .now) (l .at) (l .e) (putting pointsBytes (l .to) (l .out)) (c .loop-test .left) ∙ put-end (l .to) (l .out) (l .e)) (omega arith)
+    writes pointsBytes (a .entry) (writePoints (a .converter .policy) (a .converter .d) 0 (pointsFrom (a .points .count) (a .b .now) (a .points .place))) (a .start) (a .out .now) (l .out) (l .to) (l .e)
+    (v .rest ∙ go-end stopped (a .converter .policy) (a .converter .d) (a .points .count) (l .i) (a .b .now) (l .at) (l .e) (putting pointsBytes (l .to) (l .out)) (c .loop-test .left) ∙ put-end (l .to) (l .out) (l .e)) (omega arith)
 
 pub put-converted-spec : {M : Type 1} → statement M
 put-converted-spec =

@@ -25,10 +25,10 @@ record Inv (b : List ℕ) (from n : ℕ) (out₀ : List ℕ) (start : ℕ) (out 
   rest : splice start (pointsBytes (integersFrom n b from)) out₀ ≡ left b n i at to out
 
 abbrev Inv-loop : tie.InvT-loop
-Inv-loop b from n out₀ start i₀ at₀ to₀ out i at to = Inv b from n out₀ start out i at to
+Inv-loop b out₀ start from n i₀ at₀ to₀ out i at to = Inv b from n out₀ start out i at to
 
 abbrev μ-loop : tie.MeasureT-loop
-μ-loop b from n out₀ start i₀ at₀ to₀ out i at to = n - i
+μ-loop b out₀ start from n i₀ at₀ to₀ out i at to = n - i
 
 loop-holds : tie.Need-loop-holds Inv-loop μ-loop
 loop-holds c = record { within = search needs; place = search needs; count = search needs; long = refl; rest = left-start _ _ _ _ _ }
@@ -75,7 +75,7 @@ loop-again c =
       place = omega arith;
       count = omega arith;
       long = length-at w ∙ v .long;
-      rest = v .rest ∙ left-turn (a .b .now) (a .n) (l .i) (l .at) (l .to) _ (l .out) _ (at-loop-test .loop-test .taken) w;
+      rest = v .rest ∙ left-turn (a .b .now) (a .points .count) (l .i) (l .at) (l .to) _ (l .out) _ (at-loop-test .loop-test .taken) w;
     }
 
 same-length : tie.Need-same-length Inv-loop μ-loop
@@ -86,7 +86,7 @@ returns c =
     let a = c .before .before .before .before .args in
     let l = c .before .loop in
     let v = l .inv in
-    let k = length-integers (a .n) (a .b .now) (a .from) in
+    let k = length-integers (a .points .count) (a .b .now) (a .points .place) in
     let room = c .before .before .before .before .pre .1 in
     let within = v .within in
     let count = v .count in
@@ -94,7 +94,7 @@ returns c =
     record {
       count = omega arith;
       fits = omega arith;
-      out = sym (v .rest ∙ left-end (a .b .now) (a .n) (l .i) (l .at) (l .to) (l .out) done);
+      out = sym (v .rest ∙ left-end (a .b .now) (a .points .count) (l .i) (l .at) (l .to) (l .out) done);
     }
 
 pub put-integers-spec : {M : Type 1} → statement M

@@ -19,7 +19,7 @@ returns c =
     let at-all-pass = at-if1 .before in
     let start = at-all-pass .before .before .before in
     let a = start .args in
-    pass-put (a .converter .policy) (a .converter .d) (a .b .now) (a .n) (a .from) (at-all-pass .all-pass .ensures (at-if1 .if1 .taken)) (a .entry) (c .before .before .put-integers .ensures)
+    pass-put (a .converter .policy) (a .converter .d) (a .b .now) (a .points .count) (a .points .place) (at-all-pass .all-pass .ensures (at-if1 .if1 .taken)) (a .entry) (c .before .before .put-integers .ensures)
 
 put-converted-requires : tie.Need-put-converted-requires
 put-converted-requires c κs = search needs
