@@ -16,7 +16,7 @@ ghost use Rattle.forms.specs.code.Forms.{pointsAt, PointsIn};
 ghost use Rattle.points.specs.declared.Walked.the-variants as W;
 ghost use Rattle.cell.specs.Limits.{maxPoints};
 ghost use Rattle.points.specs.code.Integers.{integerAt, integersFrom, AllPass};
-ghost use Rattle.points.specs.code.Walk.{through, walked};
+ghost use Rattle.points.specs.code.Walk.{through, walked, withLength};
 use conversion::CoordinateConverter;
 use conversion::Entry;
 use conversion::POINT_FIELD;
@@ -26,6 +26,7 @@ use forms::COORDINATE;
 use forms::POINT;
 use forms::PointsPlaces;
 use refusal::Refusal;
+use steps::Measured;
 use steps::Written;
 
 // In an integer coordinate, the place of its value.
@@ -200,6 +201,22 @@ pub fn measure_points(
     match coordinate::convert_point(converter, b, points.place, POINT_FIELD, 0, entry) {
         Pointed::Refused { refusal } => Walked::Refused { refusal },
         Pointed::At { x, y, entry: e } => measure_rest(converter, b, points, x, y, e),
+    }
+}
+
+// The same, where the records take `length` bytes, as the number of points tells.
+pub fn with_length(walked: Walked, length: usize) -> Measured
+    ensures { λ r. ⌜ r ≡ withLength length walked ⌝ }
+{
+    match walked {
+        Walked::Refused { refusal } => Measured::Refused { refusal },
+        Walked::Through {
+            x0: _,
+            y0: _,
+            x1: _,
+            y1: _,
+            entry,
+        } => Measured::Through { length, entry },
     }
 }
 

@@ -4,10 +4,11 @@ use mathlib.Core.Bool.{Bool, true, false, _&&_}
 use Prim.Native.Nat.{ℕ, _≤_}
 use native.Mathlib.Omega.{arith}
 use lib.Dec.{leb}
+use lib.Ieee.Bits.{is-true}
 use borrow.Author.Tests.{leb-true}
 use Rattle.refusal.specs.declared.Refusal.the-variants as R
 use Rattle.conversion.specs.Made.{Made, refused, pure, need, _>>=_, _>>_}
-use Rattle.conversion.proofs.MadeLaws.{need-on, need-off}
+use Rattle.conversion.proofs.MadeLaws.{Yields, checked, needed, then-steps, need-on, need-off, refused-on, pure-on}
 use Rattle.cell.specs.Limits.{within, maxLayer, maxDataType}
 use Rattle.cell.specs.Write.{layerAndType}
 use Rattle.validation.specs.code.Check.{shapeChecks}
@@ -49,11 +50,32 @@ module _ (least n most layer datatype : ℕ) where
       go true false a b e = let z : _≡_ {A = ℕ} 0 1 = cc in absurd (omega arith)
       go false t a b e = let z : _≡_ {A = ℕ} 0 1 = cc in absurd (omega arith)
 
-  -- the checks in front of a step, as they stand in the definitions and in one
-  pub regroup : {A : Type 0} (m : Made A) → need (within least n most) R.PointCount >> (layerAndType layer datatype >> m) ≡ shapeChecks least n most layer datatype >> m
-  unfolding shapeChecks need _>>_ _>>=_
-  regroup m = go (within least n most) (layerAndType layer datatype)
-    where
-      go : {B : Type 0} (t : Bool) (k : Made B) → need t R.PointCount >> (k >> m) ≡ (need t R.PointCount >> k) >> m
-      go true k = need-on true R.PointCount (k >> m) refl ∙ sym (ap (λ (x : Made _). x >> m) (need-on true R.PointCount k refl))
-      go false k = refl
+  -- the checks in front of a step, as they stand in the definitions
+  module _ {A : Type 0} (m : Made A) where
+    abbrev pub behind : Made A
+    behind = need (within least n most) R.PointCount >> (layerAndType layer datatype >> m)
+
+    -- and as one
+    regroup : behind ≡ shapeChecks least n most layer datatype >> m
+    unfolding shapeChecks need _>>_ _>>=_
+    regroup = go (within least n most) (layerAndType layer datatype)
+      where
+        go : {B : Type 0} (t : Bool) (k : Made B) → need t R.PointCount >> (k >> m) ≡ (need t R.PointCount >> k) >> m
+        go true k = need-on true R.PointCount (k >> m) refl ∙ sym (ap (λ (x : Made _). x >> m) (need-on true R.PointCount k refl))
+        go false k = refl
+
+    pub behind-refused : (x : Refusal) → refused x ≡ shapeChecks least n most layer datatype → refused x ≡ behind
+    unfolding _>>_
+    behind-refused x h = refused-on (shapeChecks least n most layer datatype) (λ u. m) x h ∙ sym regroup
+
+    pub behind-passed : pure tt ≡ shapeChecks least n most layer datatype → m ≡ behind
+    unfolding _>>_
+    behind-passed h = pure-on (shapeChecks least n most layer datatype) (λ u. m) tt h ∙ sym regroup
+
+    -- a step that is not refused behind them has passed them
+    pub behind-yields : {a : A} → Yields behind a → pure tt ≡ shapeChecks least n most layer datatype
+    unfolding layerAndType
+    behind-yields y =
+        let count = checked R.PointCount y in
+        let layer-type = checked R.LayerOrType (then-steps (count .then) .first) in
+        all-pass (is-true _ (count .passed)) (is-true _ (layer-type .passed)) (is-true _ (needed (leb datatype maxDataType) R.LayerOrType (layer-type .then)))

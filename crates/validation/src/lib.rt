@@ -18,7 +18,9 @@ ghost use Rattle.validation.specs.code.Check.{checkOf, shapeChecks};
 // The longest sheet.
 const MAX_SHEET_LENGTH: usize = 16777216;
 
-// "Layer and type at most 255" (document 01).
+// "Points: .. to 8,191 .. Layer and type at most 255" (document 01).
+pub const MAX_POINTS: usize = 8191;
+
 const MAX_LAYER: u16 = 255;
 
 const MAX_DATA_TYPE: u16 = 255;

@@ -1,37 +1,35 @@
--- `polygon_node::put_node` meets its contract: what is left after its checks is its points. Assumes nothing.
-use mathlib.Core.Path.{sym, subst}
-use native.Mathlib.Omega.{arith}
-use Rattle.steps.specs.code.Steps.{Succeeds}
-use Rattle.steps.proofs.StepLaws.{same-step}
+-- `polygon_node::put_node` meets its contract: the head, then the points. Assumes nothing.
+use Rattle.stream.specs.Record.{NODE, NODETYPE}
+use Rattle.cell.specs.Write.{writeNode}
 use Rattle.forms.specs.code.Forms.{shapeAt}
-use Rattle.points.proofs.WalkLaws.{length-from}
-use Rattle.polygon_node.proofs.PolygonLaws.{node-is, node-counted}
+use Rattle.polygon_node.proofs.PolygonLaws.{Ready, node-ready, points-follow, shape-written}
 use borrow.Author.Needs.{needs}
 use Rattle.polygon_node.proofs.put_node.Statement.{statement}
 use Rattle.polygon_node.proofs.put_node.Tie as tie
 
-put-shape-requires : tie.Need-put-shape-requires
-unfolding shapeAt
-put-shape-requires c κs =
-    let a = c .before .before .before .args in
-    let p = c .before .before .before .pre in
-    let s = shapeAt (a .b .now) (a .places) in
-    let n = node-counted (a .converter .policy) (a .converter .d) s (p .1 .0) in
-    let l = length-from (a .places .count) (a .b .now) (a .places .points) in
-    (p .0, (omega arith, (subst Succeeds (node-is (a .converter .policy) (a .converter .d) s (p .1 .0)) (p .1 .0), (p .1 .1 .0, p .1 .1 .1))))
+ready : (k : tie.Start) → let a = k .args in Ready (a .converter .policy) (a .converter .d) (a .b .now) (a .places) (writeNode (a .converter .policy) (a .converter .d) (shapeAt (a .b .now) (a .places)))
+ready k = let a = k .args in node-ready (a .converter .policy) (a .converter .d) (a .b .now) (a .places) (k .pre .1 .0)
+
+put-shape-head-requires : tie.Need-put-shape-head-requires
+put-shape-head-requires c κs = (ready (c .before .before .before) .counted, search needs)
+
+put-points-requires : tie.Need-put-points-requires
+put-points-requires c κs =
+    let at-put-shape-head = c .before .before .before in
+    let start = at-put-shape-head .before .before .before .before in
+    let p = start .pre in
+    points-follow NODE NODETYPE (ready start) (at-put-shape-head .put-shape-head .ensures) (start .args .entry) (p .0) (p .1 .1 .0) (p .1 .1 .1)
 
 same-length : tie.Need-same-length
 same-length c = search needs
 
 returns : tie.Need-returns
 returns c =
-    let a = c .before .before .before .before .before .before .args in
-    same-step (sym (node-is (a .converter .policy) (a .converter .d) (shapeAt (a .b .now) (a .places)) (c .before .before .before .before .before .before .pre .1 .0))) (c .before .before .put-shape .ensures)
+    let at-put-points = c .before .before in
+    let at-put-shape-head = at-put-points .before .before .before .before in
+    let start = at-put-shape-head .before .before .before .before in
+    shape-written NODE NODETYPE (ready start) (at-put-shape-head .put-shape-head .ensures) (start .args .entry) (at-put-points .put-points .ensures)
 
 pub put-node-spec : {M : Type 1} → statement M
 put-node-spec =
-    tie.close
-    (tie.spec
-    put-shape-requires
-    same-length
-    returns)
+    tie.close (tie.spec put-shape-head-requires put-points-requires same-length returns)

@@ -4,6 +4,15 @@ use borrow.Author.Needs.{needs}
 use Rattle.polygon_node.proofs.put_shape_head.Statement.{statement}
 use Rattle.polygon_node.proofs.put_shape_head.Tie as tie
 
+mul-len : tie.Need-mul-len
+mul-len c = search needs
+
+add-len : tie.Need-add-len
+add-len c = search needs
+
+cast-len : tie.Need-cast-len
+cast-len c = search needs
+
 put-empty-at-requires : tie.Need-put-empty-at-requires
 put-empty-at-requires c κs = search needs
 
@@ -30,6 +39,9 @@ pub put-shape-head-spec : {M : Type 1} → statement M
 put-shape-head-spec =
     tie.close
     (tie.spec
+    mul-len
+    add-len
+    cast-len
     put-empty-at-requires
     put-word-at-requires
     put-word-at-requires-2

@@ -1,24 +1,21 @@
--- A polygon or a node: its bytes in the structure and their length (document 01, "Result one", "BOUNDARY or NODE: LAYER, DATATYPE or NODETYPE, XY"),
--- and its checks before the points ("Who can cause which refusal", 8 and 9). Assumes nothing.
+-- A polygon or a node: its bytes in the structure and their length (document 01, "Result one", "BOUNDARY or NODE: LAYER, DATATYPE or NODETYPE, XY"). Assumes nothing.
+use mathlib.Core.Bool.{Bool, true}
 use mathlib.Core.List.{List, [], _++_}
 use Prim.Native.Nat.{ℕ, _+_, _*_}
 use lib.Ieee.{Float}
-use Rattle.refusal.specs.declared.Refusal.the-variants as R
 use Rattle.conversion.specs.declared.Entry.{Entry}
 use Rattle.conversion.specs.declared.GdsRoundingPolicy.{GdsRoundingPolicy}
-use Rattle.conversion.specs.Made.{Made, Done, refused, pure, need, _>>=_, _>>_}
+use Rattle.conversion.specs.Made.{Made, pure, _>>=_}
 use Rattle.conversion.specs.Points.{writePoints}
 use Rattle.sheet.specs.Element as S
 use Rattle.stream.specs.Structure as D
 use Rattle.stream.specs.Record.{BOUNDARY, DATATYPE, NODE, NODETYPE, LAYER, XY, fourByte, recordBytes, streamBytes}
 use Rattle.stream.specs.Records.{emptyRecord, wordRecord, shapeRecords}
-use Rattle.cell.specs.Limits.{within}
-use Rattle.cell.specs.Write.{layerAndType}
-use Rattle.records.specs.code.Bytes.{headBytes}
+use Rattle.cell.specs.Write.{samePoint}
+use Rattle.records.specs.code.Bytes.{recordHead, xyPointLength, headBytes}
 use Rattle.points.specs.declared.Walked.{Walked}
+use Rattle.points.specs.declared.Walked.the-variants as W
 use Rattle.points.specs.code.Walk.{walked}
-use Rattle.polygon_node.specs.declared.Check.{Check}
-use Rattle.polygon_node.specs.declared.Check.the-variants as C
 
 -- ---- its bytes
 
@@ -32,28 +29,27 @@ polygonBytes = shapeBytes BOUNDARY DATATYPE
 abbrev pub nodeBytes : D.Shape → List ℕ
 nodeBytes = shapeBytes NODE NODETYPE
 
--- of n points: records of 4, 6, 6 and 4 + 8 n bytes
+-- those before the points: records of 4, 6 and 6 bytes, and the head of XY
+abbrev pub shapeHeadLength : ℕ
+shapeHeadLength = 20
+
+-- with n points
 abbrev pub shapeLength : ℕ → ℕ
-shapeLength n = 20 + 8 * n
+shapeLength n = shapeHeadLength + xyPointLength * n
 
--- those before the points: the records up to XY, and the head of XY
 abbrev pub shapeHead : ℕ → ℕ → ℕ → ℕ → ℕ → List ℕ
-shapeHead code typeCode layer datatype len =
-    recordBytes (emptyRecord code) ++ (recordBytes (wordRecord LAYER layer) ++ (recordBytes (wordRecord typeCode datatype) ++ headBytes len XY fourByte))
+shapeHead code typeCode layer datatype n =
+    recordBytes (emptyRecord code) ++ (recordBytes (wordRecord LAYER layer) ++ (recordBytes (wordRecord typeCode datatype) ++ headBytes (recordHead + xyPointLength * n) XY fourByte))
 
--- its ends
+-- ---- its ends
+
 abbrev pub shapeEnds : D.Shape → Entry → Walked
 shapeEnds w e = walked (w .points) e
 
--- ---- its checks before the points
-
-unfoldable pub shapeChecks : ℕ → ℕ → ℕ → ℕ → ℕ → Made Done
-shapeChecks least most layer datatype n = need (within least n most) R.PointCount >> layerAndType layer datatype
-
--- what the code answers of them
-abbrev pub checkOf : Check → Made Done
-checkOf (C.Refused r) = refused r
-checkOf C.Passed = pure tt
+-- the first point is the last, where the points are not refused
+abbrev pub closedEnds : Walked → Bool
+closedEnds (W.Refused x) = true
+closedEnds (W.Through x0 y0 x1 y1 e) = samePoint (record { x = x0; y = y0 }) (record { x = x1; y = y1 })
 
 -- ---- its points, after the checks
 

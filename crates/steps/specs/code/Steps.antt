@@ -15,6 +15,8 @@ use Rattle.steps.specs.declared.Measured.{Measured}
 use Rattle.steps.specs.declared.Measured.the-variants as M
 use Rattle.steps.specs.declared.Written.{Written}
 
+-- ---- the entry
+
 -- the most deviations of one element: a path's three lengths, and two coordinates for each of its points
 abbrev pub maxDeviations : ℕ
 maxDeviations = 3 + 2 * maxPoints
