@@ -124,7 +124,7 @@ const AFTER_NAME: usize = 143;
 // The head's name, and the bytes of its twelve stamp numbers.
 const HEAD_NAME: usize = 0;
 
-const STAMPS: usize = 24;
+pub const STAMPS: usize = 24;
 
 // The head: the places of its name and of its twelve stamp numbers.
 pub struct HeadPlaces {

@@ -9,12 +9,6 @@ ghost use Rattle.stream.specs.Records.{emptyRecord, wordRecord, longRecord, rea
 ghost use Rattle.stream.specs.Strings.{padded};
 ghost use Rattle.records.specs.code.Bytes.{recordHead, headBytes, sized, stamped, Placed, Recorded, optBytes, optionOf};
 
-// The bytes of a record's head.
-pub const RECORD_HEAD: usize = 4;
-
-// The bytes of the twelve numbers of two stamps.
-pub const STAMPS: usize = 24;
-
 // The data types of the manual.
 pub const NO_DATA: u8 = 0;
 

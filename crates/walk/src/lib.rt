@@ -188,7 +188,7 @@ fn put_head(b: &[u8], places: HeadPlaces, out: &mut [u8]) -> usize
     ensures { λ r. ⌜ WroteAt (headBytes (headAt (now (b .entry)) places)) (now (out .entry)) (now (out .exit)) 0 r ⌝ }
 {
     let from = places.stamps;
-    let to = records::put_stamps_at(out, 0, records::BGNSTR, &b[from..from + records::STAMPS]);
+    let to = records::put_stamps_at(out, 0, records::BGNSTR, &b[from..from + forms::STAMPS]);
     records::put_string_at(out, to, records::STRNAME, forms::string_at(b, places.name))
 }
 
