@@ -8,7 +8,7 @@ ghost use Rattle.big_endian.specs.Big.{numberAt};
 ghost use Rattle.parsing.specs.Parse.{times};
 ghost use Rattle.sheet.specs.Form as Form;
 ghost use Rattle.sheet.specs.Element as Element;
-ghost use Rattle.forms.specs.code.Place.{doubleAt, unitAt, coordinateAt, pointAt, pointsFrom, spacingAt, stringAt, stringEnd, coordinateLength, pointLength};
+ghost use Rattle.forms.specs.code.Place.{doubleAt, unitAt, coordinateAt, pointAt, pointsFrom, spacingAt, stringAt, stringEnd, maxWord, afterNameLength, coordinateLength, pointLength};
 ghost use Rattle.forms.specs.code.Forms.{pathTypeOf, referencePlaces};
 ghost use Rattle.forms.specs.code.Checks.{given, Checked, PropertiesRead, BodyRead, HeadRead, ElementRead};
 
@@ -260,7 +260,7 @@ pub fn is_absent(b: &[u8], at: usize) -> bool
 // Where the string at a place ends, by its length, which is what 2 bytes hold.
 pub fn string_end(b: &[u8], at: usize) -> usize
     requires { ⌜ at + 2 ≤ length (now b) ⌝ }
-    ensures { λ r. ⌜ (r ≡ stringEnd (now (b .entry)) at) × (r ≤ at + 65537) ⌝ }
+    ensures { λ r. ⌜ (r ≡ stringEnd (now (b .entry)) at) × (r ≤ at + (2 + maxWord)) ⌝ }
 {
     at + NUMBER + big_endian::u16_at(b, at) as usize
 }
@@ -288,7 +288,7 @@ fn code(b: &[u8], at: usize, most: u8) -> bool
 // A coordinate, which may be absent: then 16 zero bytes follow its kind.
 fn coordinate(b: &[u8], at: usize) -> bool
     requires { ⌜ at + coordinateLength ≤ length (now b) ⌝ }
-    ensures { λ r. ⌜ Checked Form.coordinate (now (b .entry)) at (coordinateAt (now (b .entry)) at) (at + 17) r ⌝ }
+    ensures { λ r. ⌜ Checked Form.coordinate (now (b .entry)) at (coordinateAt (now (b .entry)) at) (at + coordinateLength) r ⌝ }
 {
     let kind = big_endian::u8_at(b, at);
     if kind == INTEGER {
@@ -306,7 +306,7 @@ fn coordinate(b: &[u8], at: usize) -> bool
 // A coordinate that is not absent.
 fn given(b: &[u8], at: usize) -> bool
     requires { ⌜ at + coordinateLength ≤ length (now b) ⌝ }
-    ensures { λ r. ⌜ Checked given (now (b .entry)) at (unitAt (now (b .entry)) at) (at + 17) r ⌝ }
+    ensures { λ r. ⌜ Checked given (now (b .entry)) at (unitAt (now (b .entry)) at) (at + coordinateLength) r ⌝ }
 {
     if is_absent(b, at) {
         return false;
@@ -317,7 +317,7 @@ fn given(b: &[u8], at: usize) -> bool
 // A point: neither coordinate is absent.
 fn point(b: &[u8], at: usize) -> bool
     requires { ⌜ at + pointLength ≤ length (now b) ⌝ }
-    ensures { λ r. ⌜ Checked Form.point (now (b .entry)) at (pointAt (now (b .entry)) at) (at + 34) r ⌝ }
+    ensures { λ r. ⌜ Checked Form.point (now (b .entry)) at (pointAt (now (b .entry)) at) (at + pointLength) r ⌝ }
 {
     if !given(b, at) {
         return false;
@@ -328,7 +328,7 @@ fn point(b: &[u8], at: usize) -> bool
 // A spacing: both coordinates are absent, or neither.
 fn spacing(b: &[u8], at: usize) -> bool
     requires { ⌜ at + pointLength ≤ length (now b) ⌝ }
-    ensures { λ r. ⌜ Checked Form.spacing (now (b .entry)) at (spacingAt (now (b .entry)) at) (at + 34) r ⌝ }
+    ensures { λ r. ⌜ Checked Form.spacing (now (b .entry)) at (spacingAt (now (b .entry)) at) (at + pointLength) r ⌝ }
 {
     if !coordinate(b, at) {
         return false;
@@ -344,8 +344,8 @@ fn spacing(b: &[u8], at: usize) -> bool
 
 // n points in a row; n is what 2 bytes hold.
 fn points(b: &[u8], from: usize, n: usize) -> bool
-    requires { ⌜ (from ≤ length (now b)) × (n ≤ 65535) ⌝ }
-    ensures { λ r. ⌜ Checked (times n Form.point) (now (b .entry)) from (pointsFrom n (now (b .entry)) from) (from + 34 * n) r ⌝ }
+    requires { ⌜ (from ≤ length (now b)) × (n ≤ maxWord) ⌝ }
+    ensures { λ r. ⌜ Checked (times n Form.point) (now (b .entry)) from (pointsFrom n (now (b .entry)) from) (from + pointLength * n) r ⌝ }
 {
     if b.len() < from + POINT * n {
         return false;
@@ -523,7 +523,7 @@ fn text(b: &[u8]) -> BodyForm
 
 // The numbers and the places of a reference whose name ends at `base`.
 fn reference_places(b: &[u8], base: usize) -> ReferencePlaces
-    requires { ⌜ base + 143 ≤ length (now b) ⌝ }
+    requires { ⌜ base + afterNameLength ≤ length (now b) ⌝ }
     ensures { λ r. ⌜ r ≡ referencePlaces (now (b .entry)) base ⌝ }
 {
     let origin = base + ORIGIN;

@@ -2,12 +2,12 @@
 // Each writer puts one record at a place and answers the place after it; every other byte stays.
 ghost use mathlib.Core.Path.{_≡_};
 ghost use mathlib.Core.Bool.{cond};
-ghost use Prim.Native.Nat.{_+_, _%_, _≤_};
+ghost use Prim.Native.Nat.{_+_, _≤_};
 ghost use lib.ListN.{length};
 ghost use Rattle.big_endian.specs.Big.{bytesOf};
 ghost use Rattle.stream.specs.Records.{emptyRecord, wordRecord, longRecord, realRecord, stringRecord, colrowRecord};
 ghost use Rattle.stream.specs.Strings.{padded};
-ghost use Rattle.records.specs.code.Bytes.{recordHead, headBytes, sized, stamped, Placed, Recorded, optBytes, optionOf};
+ghost use Rattle.records.specs.code.Bytes.{recordHead, wordRecordLength, longRecordLength, realRecordLength, stringRecordLength, maxStringData, stampsData, stampsRecordLength, headBytes, sized, stamped, Placed, Recorded, optBytes, optionOf};
 
 // The data types of the manual.
 pub const NO_DATA: u8 = 0;
@@ -117,8 +117,8 @@ pub fn put_empty_at(out: &mut [u8], at: usize, code: u8) -> usize
 
 // A record of one 2-byte number, or of 16 bits.
 pub fn put_word_at(out: &mut [u8], at: usize, code: u8, data_type: u8, v: u16) -> usize
-    requires { ⌜ at + 6 ≤ length (now out) ⌝ }
-    ensures { λ r. ⌜ Recorded (sized code «data_type» 2 v) 6 (now (out .entry)) (now (out .exit)) at r ⌝ }
+    requires { ⌜ at + wordRecordLength ≤ length (now out) ⌝ }
+    ensures { λ r. ⌜ Recorded (sized code «data_type» 2 v) wordRecordLength (now (out .entry)) (now (out .exit)) at r ⌝ }
 {
     let a = put_head_at(out, at, 6, code, data_type);
     big_endian::put_u16_at(out, a, v)
@@ -126,8 +126,8 @@ pub fn put_word_at(out: &mut [u8], at: usize, code: u8, data_type: u8, v: u16) -
 
 // A record of one signed 4-byte number (`write_i32_record`).
 pub fn put_long_at(out: &mut [u8], at: usize, code: u8, q: i32) -> usize
-    requires { ⌜ at + 8 ≤ length (now out) ⌝ }
-    ensures { λ r. ⌜ Recorded (longRecord code q) 8 (now (out .entry)) (now (out .exit)) at r ⌝ }
+    requires { ⌜ at + longRecordLength ≤ length (now out) ⌝ }
+    ensures { λ r. ⌜ Recorded (longRecord code q) longRecordLength (now (out .entry)) (now (out .exit)) at r ⌝ }
 {
     let a = put_head_at(out, at, 8, code, FOUR_BYTE);
     big_endian::put_i32_at(out, a, q)
@@ -135,8 +135,8 @@ pub fn put_long_at(out: &mut [u8], at: usize, code: u8, q: i32) -> usize
 
 // A record of one eight-byte real, from its pattern.
 pub fn put_real_at(out: &mut [u8], at: usize, code: u8, pattern: u64) -> usize
-    requires { ⌜ at + 12 ≤ length (now out) ⌝ }
-    ensures { λ r. ⌜ Recorded (realRecord code (bytesOf 8 pattern)) 12 (now (out .entry)) (now (out .exit)) at r ⌝ }
+    requires { ⌜ at + realRecordLength ≤ length (now out) ⌝ }
+    ensures { λ r. ⌜ Recorded (realRecord code (bytesOf 8 pattern)) realRecordLength (now (out .entry)) (now (out .exit)) at r ⌝ }
 {
     let a = put_head_at(out, at, 12, code, EIGHT_BYTE_REAL);
     big_endian::put_u64_at(out, a, pattern)
@@ -144,8 +144,8 @@ pub fn put_real_at(out: &mut [u8], at: usize, code: u8, pattern: u64) -> usize
 
 // COLROW.
 pub fn put_colrow_at(out: &mut [u8], at: usize, columns: u16, rows: u16) -> usize
-    requires { ⌜ at + 8 ≤ length (now out) ⌝ }
-    ensures { λ r. ⌜ Recorded (colrowRecord columns rows) 8 (now (out .entry)) (now (out .exit)) at r ⌝ }
+    requires { ⌜ at + longRecordLength ≤ length (now out) ⌝ }
+    ensures { λ r. ⌜ Recorded (colrowRecord columns rows) longRecordLength (now (out .entry)) (now (out .exit)) at r ⌝ }
 {
     let a = put_head_at(out, at, 8, COLROW, TWO_BYTE);
     let b = big_endian::put_u16_at(out, a, columns);
@@ -154,9 +154,9 @@ pub fn put_colrow_at(out: &mut [u8], at: usize, columns: u16, rows: u16) -> usiz
 
 // A string: an odd one gains one zero byte (`write_string_with_record_to_file`).
 pub fn put_string_at(out: &mut [u8], at: usize, code: u8, s: &[u8]) -> usize
-    requires { ⌜ length (now s) ≤ 65530 ⌝ }
-    requires { ⌜ at + (4 + (length (now s) + length (now s) % 2)) ≤ length (now out) ⌝ }
-    ensures { λ r. ⌜ Recorded (stringRecord code (padded (now (s .entry)))) (4 + (length (now (s .entry)) + length (now (s .entry)) % 2)) (now (out .entry)) (now (out .exit)) at r ⌝ }
+    requires { ⌜ length (now s) ≤ maxStringData ⌝ }
+    requires { ⌜ at + stringRecordLength (length (now s)) ≤ length (now out) ⌝ }
+    ensures { λ r. ⌜ Recorded (stringRecord code (padded (now (s .entry)))) (stringRecordLength (length (now (s .entry)))) (now (out .entry)) (now (out .exit)) at r ⌝ }
 {
     let n = s.len();
     if n % 2 == 0 {
@@ -170,9 +170,9 @@ pub fn put_string_at(out: &mut [u8], at: usize, code: u8, s: &[u8]) -> usize
 
 // A record of two stamps, from the bytes of their twelve 2-byte numbers.
 pub fn put_stamps_at(out: &mut [u8], at: usize, code: u8, stamps: &[u8]) -> usize
-    requires { ⌜ length (now stamps) ≡ 24 ⌝ }
-    requires { ⌜ at + 28 ≤ length (now out) ⌝ }
-    ensures { λ r. ⌜ Recorded (stamped code (now (stamps .entry))) 28 (now (out .entry)) (now (out .exit)) at r ⌝ }
+    requires { ⌜ length (now stamps) ≡ stampsData ⌝ }
+    requires { ⌜ at + stampsRecordLength ≤ length (now out) ⌝ }
+    ensures { λ r. ⌜ Recorded (stamped code (now (stamps .entry))) stampsRecordLength (now (out .entry)) (now (out .exit)) at r ⌝ }
 {
     let a = put_head_at(out, at, 28, code, TWO_BYTE);
     put_bytes_at(out, a, stamps)
@@ -180,8 +180,8 @@ pub fn put_stamps_at(out: &mut [u8], at: usize, code: u8, stamps: &[u8]) -> usiz
 
 // A record of one 2-byte number, where it is there.
 pub fn put_opt_word_at(out: &mut [u8], at: usize, code: u8, there: bool, v: u16) -> usize
-    requires { ⌜ at + cond there 6 0 ≤ length (now out) ⌝ }
-    ensures { λ r. ⌜ Placed (optBytes (wordRecord code) (optionOf there v)) (cond there 6 0) (now (out .entry)) (now (out .exit)) at r ⌝ }
+    requires { ⌜ at + cond there wordRecordLength 0 ≤ length (now out) ⌝ }
+    ensures { λ r. ⌜ Placed (optBytes (wordRecord code) (optionOf there v)) (cond there wordRecordLength 0) (now (out .entry)) (now (out .exit)) at r ⌝ }
 {
     if there {
         return put_word_at(out, at, code, TWO_BYTE, v);
@@ -191,8 +191,8 @@ pub fn put_opt_word_at(out: &mut [u8], at: usize, code: u8, there: bool, v: u16)
 
 // A record of one signed 4-byte number, where it is there.
 pub fn put_opt_long_at(out: &mut [u8], at: usize, code: u8, there: bool, q: i32) -> usize
-    requires { ⌜ at + cond there 8 0 ≤ length (now out) ⌝ }
-    ensures { λ r. ⌜ Placed (optBytes (longRecord code) (optionOf there q)) (cond there 8 0) (now (out .entry)) (now (out .exit)) at r ⌝ }
+    requires { ⌜ at + cond there longRecordLength 0 ≤ length (now out) ⌝ }
+    ensures { λ r. ⌜ Placed (optBytes (longRecord code) (optionOf there q)) (cond there longRecordLength 0) (now (out .entry)) (now (out .exit)) at r ⌝ }
 {
     if there {
         return put_long_at(out, at, code, q);
@@ -202,8 +202,8 @@ pub fn put_opt_long_at(out: &mut [u8], at: usize, code: u8, there: bool, q: i32)
 
 // A record of one eight-byte real, where it is there.
 pub fn put_opt_real_at(out: &mut [u8], at: usize, code: u8, there: bool, pattern: u64) -> usize
-    requires { ⌜ at + cond there 12 0 ≤ length (now out) ⌝ }
-    ensures { λ r. ⌜ Placed (optBytes (realRecord code) (optionOf there (bytesOf 8 pattern))) (cond there 12 0) (now (out .entry)) (now (out .exit)) at r ⌝ }
+    requires { ⌜ at + cond there realRecordLength 0 ≤ length (now out) ⌝ }
+    ensures { λ r. ⌜ Placed (optBytes (realRecord code) (optionOf there (bytesOf 8 pattern))) (cond there realRecordLength 0) (now (out .entry)) (now (out .exit)) at r ⌝ }
 {
     if there {
         return put_real_at(out, at, code, pattern);

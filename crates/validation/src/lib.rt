@@ -11,7 +11,7 @@ ghost use Rattle.cell.specs.Limits as Limits;
 ghost use Rattle.cell.specs.Limits.{maxLayer, maxDataType};
 ghost use Rattle.cell.specs.Names as Names;
 ghost use Rattle.cell.specs.Stamps as Stamps;
-ghost use Rattle.forms.specs.code.Place.{wordsFrom};
+ghost use Rattle.forms.specs.code.Place.{wordsFrom, stampNumbers, stampsLength};
 ghost use Rattle.validation.specs.code.Call.{callOf};
 ghost use Rattle.validation.specs.code.Check.{checkOf, shapeChecks};
 
@@ -218,9 +218,9 @@ pub fn is_datetime(y: u16, m: u16, d: u16, h: u16, n: u16, s: u16) -> bool
 
 // Whether the six numbers from number k on, of the twelve at a place, are a stamp.
 fn stamp_fits(b: &[u8], at: usize, k: usize) -> bool
-    requires { ⌜ at + 24 ≤ length (now b) ⌝ }
+    requires { ⌜ at + stampsLength ≤ length (now b) ⌝ }
     requires { ⌜ k ≤ 6 ⌝ }
-    ensures { λ r. ⌜ r ≡ Stamps.stampFits k (wordsFrom 12 (now (b .entry)) at) ⌝ }
+    ensures { λ r. ⌜ r ≡ Stamps.stampFits k (wordsFrom stampNumbers (now (b .entry)) at) ⌝ }
 {
     let from = at + NUMBER * k;
     let y = big_endian::u16_at(b, from);
@@ -251,8 +251,8 @@ fn all_zero(b: &[u8], from: usize, n: usize) -> bool
 
 // Whether the twelve numbers at a place are two stamps, or all zero.
 pub fn stamps_fit(b: &[u8], at: usize) -> bool
-    requires { ⌜ at + 24 ≤ length (now b) ⌝ }
-    ensures { λ r. ⌜ r ≡ Stamps.stampsFit (wordsFrom 12 (now (b .entry)) at) ⌝ }
+    requires { ⌜ at + stampsLength ≤ length (now b) ⌝ }
+    ensures { λ r. ⌜ r ≡ Stamps.stampsFit (wordsFrom stampNumbers (now (b .entry)) at) ⌝ }
 {
     if all_zero(b, at, STAMP_NUMBERS) {
         return true;

@@ -23,13 +23,13 @@ use Rattle.forms.specs.declared.HeadForm.{HeadForm}
 use Rattle.forms.specs.declared.HeadForm.the-variants as H
 use Rattle.forms.specs.declared.ElementForm.{ElementForm}
 use Rattle.forms.specs.declared.ElementForm.the-variants as E
-use Rattle.forms.specs.code.Place.{placeFrom, wordsFrom, doubleAt, coordinateAt, pointAt, pointsFrom, spacingAt, stringAt, stringEnd, propertyEnd, propertiesFrom, coordinateLength, pointLength}
+use Rattle.forms.specs.code.Place.{placeFrom, wordsFrom, doubleAt, coordinateAt, pointAt, pointsFrom, spacingAt, stringAt, stringEnd, propertyEnd, propertiesFrom, stampNumbers, stampsLength, coordinateLength, pointLength}
 
 -- ---- what the places tell
 
 -- "name string; twelve numbers"
 unfoldable pub headAt : List ℕ → HeadPlaces → Head
-headAt b s = record { name = stringAt b (s .name); stamps = wordsFrom 12 b (s .stamps) }
+headAt b s = record { name = stringAt b (s .name); stamps = wordsFrom stampNumbers b (s .stamps) }
 
 abbrev pub pointsAt : List ℕ → PointsPlaces → List (Point Unit)
 pointsAt b s = pointsFrom (s .count) b (s .place)
@@ -123,7 +123,7 @@ elementAt b (E.Element s q) = some (record { body = bodyAt b s; properties = pro
 
 pub record HeadIn (b : List ℕ) (s : HeadPlaces) : Type 0 where
   pub name-in : stringEnd b (s .name) ≤ length b
-  pub stamps-in : s .stamps + 24 ≤ length b
+  pub stamps-in : s .stamps + stampsLength ≤ length b
 
 abbrev pub PointsIn : List ℕ → PointsPlaces → Type 0
 PointsIn b s = s .place + pointLength * s .count ≤ length b

@@ -40,6 +40,21 @@ wordsFrom = valuesFrom (numberAt 2) wordEnd
 abbrev pub doubleAt : List ℕ → ℕ → Float
 doubleAt b at = ofBits binary64 (numberAt 8 b at)
 
+-- the greatest of 2 bytes
+abbrev pub maxWord : ℕ
+maxWord = 65535
+
+-- "its twelve stamp numbers", and their bytes
+abbrev pub stampNumbers : ℕ
+stampNumbers = 12
+
+abbrev pub stampsLength : ℕ
+stampsLength = 24
+
+-- what a reference's block has between its name and its properties
+abbrev pub afterNameLength : ℕ
+afterNameLength = 143
+
 -- ---- coordinates
 
 -- "17 bytes, a kind, 8 value bytes, then the unit as a double"; a point has two

@@ -3,18 +3,47 @@ use mathlib.Core.Path.{_≡_}
 use mathlib.Core.Option.{Option, none, some}
 use mathlib.Core.Bool.{Bool, cond}
 use mathlib.Core.List.{List, [], _∷_, _++_}
-use Prim.Native.Nat.{ℕ, _+_}
+use Prim.Native.Nat.{ℕ, _+_, _%_}
 use lib.ListN.{length}
 use Rattle.big_endian.specs.Big.{bytesOf}
 use Rattle.big_endian.specs.Buffer.{WroteAt}
 use Rattle.stream.specs.Record.{Rec, twoByte, recordBytes}
 
--- the bytes of a record's head, and of a point in an XY record
+-- ---- how many bytes
+
+-- a record's head, which is all of a record with no data
 abbrev pub recordHead : ℕ
 recordHead = 4
 
+-- records of one 2-byte number, of 4 bytes (one number, or COLROW's two) and of one eight-byte real
+abbrev pub wordRecordLength : ℕ
+wordRecordLength = 6
+
+abbrev pub longRecordLength : ℕ
+longRecordLength = 8
+
+abbrev pub realRecordLength : ℕ
+realRecordLength = 12
+
+-- a record of a string of n bytes, made even; the longest string whose record's length 2 bytes hold
+abbrev pub stringRecordLength : ℕ → ℕ
+stringRecordLength n = recordHead + (n + n % 2)
+
+abbrev pub maxStringData : ℕ
+maxStringData = 65530
+
+-- the twelve 2-byte numbers of two stamps, and their record
+abbrev pub stampsData : ℕ
+stampsData = 24
+
+abbrev pub stampsRecordLength : ℕ
+stampsRecordLength = 28
+
+-- a point in an XY record
 abbrev pub xyPointLength : ℕ
 xyPointLength = 8
+
+-- ---- the bytes
 
 -- a record's head: its length, code and data type
 abbrev pub headBytes : ℕ → ℕ → ℕ → List ℕ
