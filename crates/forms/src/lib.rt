@@ -8,9 +8,9 @@ ghost use Rattle.big_endian.specs.Big.{numberAt};
 ghost use Rattle.parsing.specs.Parse.{times};
 ghost use Rattle.sheet.specs.Form as Form;
 ghost use Rattle.sheet.specs.Element as Element;
-ghost use Rattle.forms.specs.code.Place.{doubleAt, unitAt, coordinateAt, pointAt, pointsFrom, spacingAt, stringAt, stringEnd, maxWord, afterNameLength, coordinateLength, pointLength};
+ghost use Rattle.forms.specs.code.Place.{doubleAt, unitAt, coordinateAt, pointAt, pointsFrom, spacingAt, stringAt, stringEnd, maxWord, pathPointsPlace, afterNameLength, coordinateLength, pointLength};
 ghost use Rattle.forms.specs.code.Forms.{pathTypeOf, referencePlaces};
-ghost use Rattle.forms.specs.code.Checks.{given, Checked, PropertiesRead, BodyRead, HeadRead, ElementRead};
+ghost use Rattle.forms.specs.code.Checks.{given, Checked, LengthsChecked, PropertiesRead, BodyRead, HeadRead, ElementRead};
 
 // The kind byte of a coordinate.
 pub const INTEGER: u8 = 0;
@@ -440,6 +440,20 @@ fn path_type(b: &[u8], at: usize) -> bool
     pathtype <= MAX_PATH_TYPE
 }
 
+// The three lengths of a path.
+fn lengths(b: &[u8]) -> bool
+    requires { ⌜ pathPointsPlace ≤ length (now b) ⌝ }
+    ensures { λ r. ⌜ LengthsChecked (now (b .entry)) r ⌝ }
+{
+    if !coordinate(b, WIDTH) {
+        return false;
+    }
+    if !coordinate(b, BEGIN) {
+        return false;
+    }
+    coordinate(b, END)
+}
+
 fn path(b: &[u8]) -> BodyForm
     ensures { λ r. ⌜ BodyRead Element.pathKind (now (b .entry)) r ⌝ }
 {
@@ -449,13 +463,7 @@ fn path(b: &[u8]) -> BodyForm
     if !path_type(b, PATH_TYPE) {
         return BodyForm::Ill;
     }
-    if !coordinate(b, WIDTH) {
-        return BodyForm::Ill;
-    }
-    if !coordinate(b, BEGIN) {
-        return BodyForm::Ill;
-    }
-    if !coordinate(b, END) {
+    if !lengths(b) {
         return BodyForm::Ill;
     }
     let count = big_endian::u16_at(b, PATH_COUNT) as usize;

@@ -9,7 +9,7 @@ use lib.ListN.{length, drop}
 use Rattle.units.specs.declared.Unit as Coordinate
 use Rattle.parsing.specs.Parse.{Part, ill, part, IllFormed, illFormed, present, whole, _>>=_}
 use Rattle.sheet.specs.Form.{Form, counted, coordinate}
-use Rattle.sheet.specs.Element.{Property, Body, property, bodyForm, headOf, elementOf}
+use Rattle.sheet.specs.Element.{Property, Path, Body, property, bodyForm, headOf, elementOf}
 use Rattle.forms.specs.declared.BodyPlaces.{BodyPlaces}
 use Rattle.forms.specs.declared.PropertiesForm.{PropertiesForm}
 use Rattle.forms.specs.declared.PropertiesForm.the-variants as P
@@ -19,6 +19,7 @@ use Rattle.forms.specs.declared.HeadForm.{HeadForm}
 use Rattle.forms.specs.declared.HeadForm.the-variants as H
 use Rattle.forms.specs.declared.ElementForm.{ElementForm}
 use Rattle.forms.specs.declared.ElementForm.the-variants as E
+use Rattle.forms.specs.code.Place.{coordinateAt}
 use Rattle.forms.specs.code.Forms.{bodyAt, propertiesAt, headFormAt, elementAt, HeadIn, BodyIn, PropertiesIn, ElementIn}
 
 -- a coordinate that is not absent
@@ -28,6 +29,11 @@ given = coordinate >>= present illFormed
 -- A check at a place that answers yes or no: the form p gives a and ends at `to`, or is ill-formed.
 pub record Checked {A : Type 0} (p : Form A) (b : List ℕ) (at : ℕ) (a : A) (to : ℕ) (r : Bool) : Type 0 where
   pub is : p (drop at b) ≡ cond r (part a (drop to b)) (ill illFormed)
+
+-- The three lengths of a path, each of which may be absent, in front of whatever follows them.
+pub record LengthsChecked (b : List ℕ) (r : Bool) : Type 0 where
+  pub is : (f : Option Coordinate.Unit → Option Coordinate.Unit → Option Coordinate.Unit → Form Path)
+      → (coordinate >>= λ w. coordinate >>= λ g. coordinate >>= λ e. f w g e) (drop 6 b) ≡ cond r (f (coordinateAt b 6) (coordinateAt b 23) (coordinateAt b 40) (drop 57 b)) (ill illFormed)
 
 -- ---- the properties, to the end of the block
 

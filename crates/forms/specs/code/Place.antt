@@ -51,6 +51,10 @@ stampNumbers = 12
 abbrev pub stampsLength : ℕ
 stampsLength = 24
 
+-- where a path's points begin
+abbrev pub pathPointsPlace : ℕ
+pathPointsPlace = 59
+
 -- what a reference's block has between its name and its properties
 abbrev pub afterNameLength : ℕ
 afterNameLength = 143
