@@ -1,15 +1,14 @@
 -- The steps before the points: an answer handed on, each way out of the code, and a path as these steps and then its points. Assumes nothing.
 use mathlib.Core.Path.{_≡_, refl, sym, ap, ap₂, _∙_, subst}
-use mathlib.Core.Bool.{Bool, true, false, cond, _&&_}
+use mathlib.Core.Bool.{Bool, true, false, cond}
 use mathlib.Core.Option.{Option, none, some}
 use mathlib.Core.List.{List}
 use Prim.Native.Nat.{ℕ, _+_, _≤_}
 use native.Mathlib.Omega.{arith}
-use lib.Dec.{leb, eqb}
+use lib.Dec.{eqb}
 use lib.ListN.{length}
 use lib.IntN.{ℤ}
 use lib.Ieee.{Float}
-use borrow.Author.Tests.{leb-true}
 use Rattle.refusal.specs.declared.Refusal.{Refusal}
 use Rattle.refusal.specs.declared.Refusal.the-variants as R
 use Rattle.units.specs.declared.Unit as Units
@@ -17,33 +16,36 @@ use Rattle.units.specs.Point.{Point}
 use Rattle.big_endian.specs.Big.{numberAt}
 use Rattle.conversion.specs.declared.Entry.{Entry}
 use Rattle.conversion.specs.declared.GdsRoundingPolicy.{GdsRoundingPolicy}
-use Rattle.conversion.specs.Made.{Made, pure, need, _>>=_, _>>_}
-use Rattle.conversion.specs.code.Fold.{blankEntry, notedAll, run}
+use Rattle.conversion.specs.Made.{Made, Done, refused, pure, _>>=_}
+use Rattle.conversion.specs.code.Fold.{blankEntry, run}
 use Rattle.conversion.specs.Convert.{convertUnit}
 use Rattle.conversion.specs.Points.{spot, writePoints, writeLength}
 use Rattle.conversion.specs.Field.{widthField, beginField, endField, noAxis}
-use Rattle.conversion.proofs.FoldLaws.{run-bind, run-then, run-pure, run-need, run-unmet, run-map, run-same}
-use Rattle.conversion.proofs.MadeLaws.{steps}
+use Rattle.conversion.proofs.FoldLaws.{run-bind, run-then, run-pure, run-map, run-same}
+use Rattle.conversion.proofs.MadeLaws.{Yields, steps}
 use Rattle.sheet.specs.Form.{absentKind}
 use Rattle.sheet.specs.Element as S
 use Rattle.stream.specs.Structure as D
 use Rattle.records.specs.code.Bytes.{optionOf}
 use Rattle.steps.specs.code.Ready.{Ready, stopped, ready}
 use Rattle.steps.specs.code.Steps.{Succeeds}
-use Rattle.steps.proofs.StepLaws.{yields, succeeds, past-check, past-checks}
-use Rattle.steps.proofs.ReadyLaws.{ready-stops, ready-goes-on, succeeds-as, never-stopped}
-use Rattle.cell.specs.Limits.{within, minPathPoints, maxPoints, maxLayer, maxDataType}
-use Rattle.cell.specs.Write.{isSome, layerAndType, writePath}
+use Rattle.steps.proofs.StepLaws.{yields, succeeds}
+use Rattle.steps.proofs.ReadyLaws.{ready-yields, ready-stops, ready-goes-on, succeeds-as, never-stopped}
+use Rattle.cell.specs.Limits.{minPathPoints, maxPoints}
+use Rattle.cell.specs.Write.{isSome, writePath}
+use Rattle.validation.specs.code.Check.{shapeChecks}
+use Rattle.validation.proofs.CheckLaws.{behind, behind-refused, behind-passed, behind-yields, passed-within}
 use Rattle.forms.specs.code.Place.{unitAt, coordinateAt}
 use Rattle.coordinate.specs.declared.Valued.{Valued}
 use Rattle.coordinate.specs.declared.Valued.the-variants as G
 use Rattle.coordinate.specs.code.Coordinate.{ValueGrown, GivesValue}
 use Rattle.coordinate.proofs.ValueLaws.{value-stops, value-goes-on}
+use Rattle.path.specs.declared.Extent.{Extent}
 use Rattle.path.specs.declared.Length.{Length}
 use Rattle.path.specs.declared.Length.the-variants as L
 use Rattle.path.specs.declared.Lengths.{Lengths}
 use Rattle.path.specs.declared.Lengths.the-variants as F
-use Rattle.path.specs.code.Front.{Extent, extent, writeExtent, writeFront, lengthOf, extentOf, LengthFits, GivesLength, GivesExtent}
+use Rattle.path.specs.code.Front.{OptExtent, optExtent, writeExtent, writeFront, lengthOf, extentOf, LengthFits, GivesLength, GivesExtent}
 
 -- ---- an answer handed on: a step's refusal, or what is left after its value
 
@@ -97,20 +99,23 @@ module _ (policy : GdsRoundingPolicy) (d : Float) (f : ℕ) (b : List ℕ) (at :
 
 -- ---- the three lengths: each way out
 
+abbrev extent : Bool → ℤ → Bool → ℤ → Bool → ℤ → Extent
+extent wide width begun begin ended end = record { wide = wide; width = width; begun = begun; begin = begin; ended = ended; end = end }
+
 -- the lengths in other words: what the machine reads back of them
-pub same-extent : (wide begun ended : Bool) {z1 q1 z2 q2 z3 q3 : ℤ} → z1 ≡ q1 → z2 ≡ q2 → z3 ≡ q3 → extent wide z1 begun z2 ended z3 ≡ extent wide q1 begun q2 ended q3
+pub same-extent : (wide begun ended : Bool) {z1 q1 z2 q2 z3 q3 : ℤ} → z1 ≡ q1 → z2 ≡ q2 → z3 ≡ q3 → optExtent (extent wide z1 begun z2 ended z3) ≡ optExtent (extent wide q1 begun q2 ended q3)
 same-extent wide begun ended {q1 = q1} {z2 = z2} {z3 = z3} i1 i2 i3 =
-    ap (λ (z : ℤ). extent wide z begun z2 ended z3) i1 ∙ ap₂ (λ (y z : ℤ). extent wide q1 begun y ended z) i2 i3
+    ap (λ (z : ℤ). optExtent (extent wide z begun z2 ended z3)) i1 ∙ ap₂ (λ (y z : ℤ). optExtent (extent wide q1 begun y ended z)) i2 i3
 
 module _ (policy : GdsRoundingPolicy) (d : Float) (p : S.Path) (e : Entry) (r1 : Length)
     (h1 : GivesLength (isSome (p .width)) e (writeLength policy d widthField (p .width)) r1) where
-  abbrev third : Option ℤ → Option ℤ → Option ℤ → Made Extent
+  abbrev third : Option ℤ → Option ℤ → Option ℤ → Made OptExtent
   third w b n = pure (record { width = w; begin = b; end = n })
 
-  abbrev second : Option ℤ → Option ℤ → Made Extent
+  abbrev second : Option ℤ → Option ℤ → Made OptExtent
   second w b = writeLength policy d endField (p .end) >>= λ n. third w b n
 
-  abbrev first : Option ℤ → Made Extent
+  abbrev first : Option ℤ → Made OptExtent
   first w = writeLength policy d beginField (p .begin) >>= λ b. second w b
 
   pub width-stops : (x : Refusal) → r1 ≡ L.Refused x → GivesExtent p e (writeExtent policy d p) (F.Refused x)
@@ -137,14 +142,14 @@ module _ (policy : GdsRoundingPolicy) (d : Float) (p : S.Path) (e : Entry) (r1 :
 
       -- z1, z2 and z3 are what the machine reads back of the values
       pub all-there : (n : Bool) (q3 : ℤ) (e3 : Entry) → r3 ≡ L.At n q3 e3 → (z1 z2 z3 : ℤ) → z1 ≡ q1 → z2 ≡ q2 → z3 ≡ q3
-          → GivesExtent p e (writeExtent policy d p) (F.At w z1 b z2 n z3 e3)
+          → GivesExtent p e (writeExtent policy d p) (F.At (extent w z1 b z2 n z3) e3)
       all-there n q3 e3 g3 z1 z2 z3 i1 i2 i3 =
           let f1 = subst (LengthFits (isSome (p .width)) (e .count)) g1 (h1 .fits) in
           let f2 = subst (LengthFits (isSome (p .begin)) (e1 .count)) g2 (h2 .fits) in
           let f3 = subst (LengthFits (isSome (p .end)) (e2 .count)) g3 (h3 .fits) in
           record {
-            is = ap (λ (x : Extent). ready x e3) (same-extent w b n i1 i2 i3)
-                ∙ sym (run-pure stopped e3 (extent w q1 b q2 n q3) ready)
+            is = ap (λ (x : OptExtent). ready x e3) (same-extent w b n i1 i2 i3)
+                ∙ sym (run-pure stopped e3 (optExtent (extent w q1 b q2 n q3)) ready)
                 ∙ goes-on stopped e2 (writeLength policy d endField (p .end)) (third (optionOf w q1) (optionOf b q2)) ready (lengthOf r3) (optionOf n q3) e3 (h3 .is) (ap lengthOf g3)
                 ∙ after-begin;
             fits = record { wide-is = f1 .0; begun-is = f2 .0; ended-is = f3 .0; grown = go (e .count) (e1 .count) (e2 .count) (e3 .count) (f1 .1) (f2 .1) (f3 .1) };
@@ -155,42 +160,41 @@ module _ (policy : GdsRoundingPolicy) (d : Float) (p : S.Path) (e : Entry) (r1 :
 
 -- ---- the checks: each way out
 
-module _ (policy : GdsRoundingPolicy) (d : Float) (p : S.Path) {Z : Type 0} (stop : Refusal → Z) (e : Entry) (k : Extent → Entry → Z) where
-  -- layer and type, before what is left
-  layer-type : {A : Type 0} (l t : ℕ) (m : Made A) (k : A → Entry → Z) (s u : Bool) → leb l maxLayer ≡ s → leb t maxDataType ≡ u
-      → run stop e (layerAndType l t >> m) k ≡ cond (s && u) (run stop e m k) (stop R.LayerOrType)
-  unfolding layerAndType need run notedAll _>>_ _>>=_
-  layer-type l t m k s u a b =
-      run-then stop e (layerAndType l t) m k
-      ∙ ap₂ (λ (s u : Bool). run stop e (need s R.LayerOrType >> need u R.LayerOrType) (λ _ e′. run stop e′ m k)) a b
-      ∙ go s u
-    where
-      go : (s u : Bool) → run stop e (need s R.LayerOrType >> need u R.LayerOrType) (λ _ e′. run stop e′ m k) ≡ cond (s && u) (run stop e m k) (stop R.LayerOrType)
-      go true true = refl
-      go true false = refl
-      go false u = refl
+module _ (policy : GdsRoundingPolicy) (d : Float) (p : S.Path) where
+  abbrev checks : Made Done
+  checks = shapeChecks minPathPoints (length (p .points)) maxPoints (p .layer) (p .datatype)
 
-  pub wrong-count : within minPathPoints (length (p .points)) maxPoints ≡ false → run stop e (writeFront policy d p) k ≡ stop R.PointCount
+  front-is : behind minPathPoints (length (p .points)) maxPoints (p .layer) (p .datatype) (writeExtent policy d p) ≡ writeFront policy d p
   unfolding writeFront
-  wrong-count h = run-unmet stop e (within minPathPoints (length (p .points)) maxPoints) R.PointCount _ k h
+  front-is = refl
 
-  -- whether layer and type are allowed
-  pub right-count : (s u : Bool) → within minPathPoints (length (p .points)) maxPoints ≡ true → leb (p .layer) maxLayer ≡ s → leb (p .datatype) maxDataType ≡ u
-      → run stop e (writeFront policy d p) k ≡ cond (s && u) (run stop e (writeExtent policy d p) k) (stop R.LayerOrType)
+  front-passed : pure tt ≡ checks → writeExtent policy d p ≡ writeFront policy d p
+  front-passed h = behind-passed minPathPoints (length (p .points)) maxPoints (p .layer) (p .datatype) (writeExtent policy d p) h ∙ front-is
+
+  front-yields : {x : OptExtent} → Yields (writeFront policy d p) x → pure tt ≡ checks
   unfolding writeFront
-  right-count s u h a b =
-      run-need stop e (within minPathPoints (length (p .points)) maxPoints) R.PointCount _ k h
-      ∙ layer-type (p .layer) (p .datatype) (writeExtent policy d p) k s u a b
+  front-yields y = behind-yields minPathPoints (length (p .points)) maxPoints (p .layer) (p .datatype) (writeExtent policy d p) y
+
+  pub checks-stop : (e : Entry) (x : Refusal) → refused x ≡ checks → GivesExtent p e (writeFront policy d p) (F.Refused x)
+  unfolding run
+  checks-stop e x h =
+      record {
+        is = ap (λ (m : Made OptExtent). run stopped e m ready) (behind-refused minPathPoints (length (p .points)) maxPoints (p .layer) (p .datatype) (writeExtent policy d p) x h ∙ front-is);
+        fits = tt;
+      }
+
+  pub checks-pass : (e : Entry) (r : Lengths) → pure tt ≡ checks → GivesExtent p e (writeExtent policy d p) r → GivesExtent p e (writeFront policy d p) r
+  checks-pass e r h g = subst (λ (m : Made OptExtent). GivesExtent p e m r) (front-passed h) g
 
 -- ---- a path: these steps, then its points
 
 module _ (policy : GdsRoundingPolicy) (d : Float) (p : S.Path) where
   -- what the records say of it
-  abbrev pub drawn : Extent → List (Point ℤ) → D.Path
+  abbrev pub drawn : OptExtent → List (Point ℤ) → D.Path
   drawn l ps = record { layer = p .layer; datatype = p .datatype; pathType = p .pathType; width = l .width; begin = l .begin; end = l .end; points = ps }
 
   module _ {R : Type 0} (stop : Refusal → R) (e : Entry) (k : D.Path → Entry → R) where
-    abbrev rest : Extent → Made D.Path
+    abbrev rest : OptExtent → Made D.Path
     rest l = writePoints policy d 0 (p .points) >>= λ ps. pure (drawn l ps)
 
     pub path-is : run stop e (writePath policy d p) k ≡ run stop e (writeFront policy d p >>= rest) k
@@ -212,32 +216,19 @@ module _ (policy : GdsRoundingPolicy) (d : Float) (p : S.Path) where
       pub front-stops : (x : Refusal) → r ≡ F.Refused x → stop x ≡ run stop e (writePath policy d p) k
       front-stops x g = stops stop e (writeFront policy d p) rest k (extentOf r) x (h .is) (ap extentOf g) ∙ sym path-is
 
-      pub front-goes-on : (w : Bool) (q1 : ℤ) (b : Bool) (q2 : ℤ) (n : Bool) (q3 : ℤ) (e′ : Entry) → r ≡ F.At w q1 b q2 n q3 e′
-          → run stop e′ (writePoints policy d 0 (p .points)) (λ ps e″. k (drawn (extent w q1 b q2 n q3) ps) e″) ≡ run stop e (writePath policy d p) k
-      front-goes-on w q1 b q2 n q3 e′ g =
-          sym (run-map stop e′ (writePoints policy d 0 (p .points)) (drawn (extent w q1 b q2 n q3)) k)
-          ∙ goes-on stop e (writeFront policy d p) rest k (extentOf r) (extent w q1 b q2 n q3) e′ (h .is) (ap extentOf g)
+      pub front-goes-on : (x : Extent) (e′ : Entry) → r ≡ F.At x e′
+          → run stop e′ (writePoints policy d 0 (p .points)) (λ ps e″. k (drawn (optExtent x) ps) e″) ≡ run stop e (writePath policy d p) k
+      front-goes-on x e′ g =
+          sym (run-map stop e′ (writePoints policy d 0 (p .points)) (drawn (optExtent x)) k)
+          ∙ goes-on stop e (writeFront policy d p) rest k (extentOf r) (optExtent x) e′ (h .is) (ap extentOf g)
           ∙ sym path-is
 
   -- where the front gives lengths, the points are as many as they may be
-  pub front-counted : (e : Entry) (r : Lengths) → GivesExtent p e (writeFront policy d p) r → (w : Bool) (q1 : ℤ) (b : Bool) (q2 : ℤ) (n : Bool) (q3 : ℤ) (e′ : Entry) → r ≡ F.At w q1 b q2 n q3 e′
-      → (2 ≤ length (p .points)) × (length (p .points) ≤ 8191)
-  front-counted e r h w q1 b q2 n q3 e′ g = go (leb 2 (length (p .points))) (leb (length (p .points)) 8191) refl refl
-    where
-      Goal : Type 0
-      Goal = (2 ≤ length (p .points)) × (length (p .points) ≤ 8191)
-
-      no : within minPathPoints (length (p .points)) maxPoints ≡ false → Goal
-      no t =
-          let x : extentOf r ≡ stopped R.PointCount = h .is ∙ wrong-count policy d p stopped e ready t in
-          let y : extentOf r ≡ ready (extent w q1 b q2 n q3) e′ = ap extentOf g in
-          let z : _≡_ {A = ℕ} 0 1 = cc in
-          absurd (omega arith)
-
-      go : (s t : Bool) → leb 2 (length (p .points)) ≡ s → leb (length (p .points)) 8191 ≡ t → Goal
-      go true true x y = (leb-true 2 (length (p .points)) x, leb-true (length (p .points)) 8191 y)
-      go true false x y = no (ap₂ _&&_ x y)
-      go false t x y = no (ap₂ _&&_ x y)
+  pub front-counted : (e : Entry) (r : Lengths) → GivesExtent p e (writeFront policy d p) r → (x : Extent) (e′ : Entry) → r ≡ F.At x e′
+      → (minPathPoints ≤ length (p .points)) × (length (p .points) ≤ maxPoints)
+  front-counted e r h x e′ g =
+      passed-within minPathPoints (length (p .points)) maxPoints (p .layer) (p .datatype)
+      (front-yields policy d p (ready-yields e (writeFront policy d p) (optExtent x) e′ (ap extentOf (sym g) ∙ h .is)))
 
   -- ---- where the path succeeds, its front does, which is its lengths, and so do its points
 
@@ -251,14 +242,8 @@ module _ (policy : GdsRoundingPolicy) (d : Float) (p : S.Path) where
     pub points-succeed : Succeeds (writePoints policy d 0 (p .points))
     points-succeed = succeeds (steps (steps (yields both-steps) .then) .first)
 
-    past : writeFront policy d p ≡ writeExtent policy d p
-    unfolding writeFront layerAndType
-    past =
-        let h = past-check (within minPathPoints (length (p .points)) maxPoints) R.PointCount _ front-succeeds in
-        h ∙ past-checks (leb (p .layer) maxLayer) R.LayerOrType (leb (p .datatype) maxDataType) R.LayerOrType _ (subst Succeeds h front-succeeds)
-
     pub front-past : {e : Entry} {r : Lengths} → GivesExtent p e (writeExtent policy d p) r → GivesExtent p e (writeFront policy d p) r
-    front-past {e} {r} g = subst (λ (m : Made Extent). GivesExtent p e m r) (sym past) g
+    front-past {e} {r} g = checks-pass policy d p e r (front-yields policy d p (yields front-succeeds)) g
 
     pub front-never : {X : Type 0} {e : Entry} {r : Lengths} {x : Refusal} → GivesExtent p e (writeFront policy d p) r → r ≡ F.Refused x → X
     front-never {e = e} {x = x} h g = never-stopped e (writeFront policy d p) x front-succeeds (ap extentOf (sym g) ∙ h .is)

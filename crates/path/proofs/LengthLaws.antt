@@ -9,6 +9,7 @@ use lib.Dec.{eqb}
 use lib.ListN.{length, length-append}
 use lib.IntN.{ℤ}
 use Rattle.units.specs.Point.{Point}
+use Rattle.conversion.specs.declared.Entry.{Entry}
 use Rattle.sheet.specs.Element as S
 use Rattle.stream.specs.Record.{Rec, PATH, LAYER, DATATYPE, PATHTYPE, WIDTH, BGNEXTN, ENDEXTN, XY, fourByte, recordBytes, streamBytes}
 use Rattle.stream.specs.Records.{emptyRecord, wordRecord, longRecord, xyRecord, pointsBytes, opt, pathRecords}
@@ -18,9 +19,10 @@ use Rattle.records.proofs.RecordLaws.{placed, then-placed, length-record, then-
 use Rattle.cell.specs.Write.{isSome}
 use Rattle.forms.specs.code.Forms.{pathTypeOf}
 use Rattle.points.proofs.WalkLaws.{length-bytes}
-use Rattle.path.specs.code.Front.{Extent, extent}
+use Rattle.path.specs.declared.Extent.{Extent}
+use Rattle.path.specs.code.Front.{OptExtent, optExtent, Fits}
+use Rattle.path.specs.code.Length.{pathBytes, extentRecords, headRecords, pathHead, extentLength, flagsLength, headLength, pathLength}
 use Rattle.path.proofs.FrontLaws.{same-extent}
-use Rattle.path.specs.code.Length.{pathBytes, extentRecords, headRecords, pathHead, extentLength, headLength, pathLength}
 
 -- ---- a flag and a value
 
@@ -28,9 +30,19 @@ pub flag-is : {A : Type 0} (t : Bool) (v : A) → isSome (optionOf t v) ≡ t
 flag-is true v = refl
 flag-is false v = refl
 
-pub if-small : (t : Bool) (n : ℕ) → cond t n 0 ≤ n
-if-small true n = omega arith
-if-small false n = omega arith
+-- each piece of the head is as long as it may be at most
+pub record Small (typed : Bool) (x : Extent) : Type 0 where
+  pub type : cond typed 6 0 ≤ 6
+  pub width : cond (x .wide) 8 0 ≤ 8
+  pub begin : cond (x .begun) 8 0 ≤ 8
+  pub end : cond (x .ended) 8 0 ≤ 8
+
+pub pieces-small : (typed : Bool) (x : Extent) → Small typed x
+pieces-small typed x = record { type = go typed 6; width = go (x .wide) 8; begin = go (x .begun) 8; end = go (x .ended) 8 }
+  where
+    go : (t : Bool) (n : ℕ) → cond t n 0 ≤ n
+    go true n = omega arith
+    go false n = omega arith
 
 -- the sheet's byte is the path type where it is there
 pub type-back : (k : ℕ) → optionOf (isSome (pathTypeOf k)) k ≡ pathTypeOf k
@@ -65,7 +77,7 @@ module _ (t : List ℕ) where
   unfolding streamBytes
   nil-split rs h = h
 
-  head-split : (layer datatype : ℕ) (k : Option ℕ) (l : Extent) (rs : List Rec) → streamBytes rs ≡ t
+  head-split : (layer datatype : ℕ) (k : Option ℕ) (l : OptExtent) (rs : List Rec) → streamBytes rs ≡ t
       → streamBytes (headRecords layer datatype k l rs) ≡ streamBytes (headRecords layer datatype k l []) ++ t
   head-split layer datatype k l rs h =
       cons-split (emptyRecord PATH) _ _ (cons-split (wordRecord LAYER layer) _ _ (cons-split (wordRecord DATATYPE datatype) _ _
@@ -79,7 +91,7 @@ xy-is ps n h =
     ∙ ap (λ (k : ℕ). headBytes (4 + k) XY fourByte ++ pointsBytes ps) (length-bytes ps ∙ ap (λ (k : ℕ). 8 * k) h)
 
 -- the bytes before the points, then the points
-pub path-split : (layer datatype : ℕ) (k : Option ℕ) (l : Extent) (ps : List (Point ℤ)) (n : ℕ) → length ps ≡ n
+pub path-split : (layer datatype : ℕ) (k : Option ℕ) (l : OptExtent) (ps : List (Point ℤ)) (n : ℕ) → length ps ≡ n
     → pathBytes (record { layer = layer; datatype = datatype; pathType = k; width = l .width; begin = l .begin; end = l .end; points = ps }) ≡ pathHead layer datatype k l n ++ pointsBytes ps
 unfolding pathBytes pathRecords pathHead
 path-split layer datatype k l ps n h =
@@ -105,8 +117,8 @@ length-none : length (streamBytes []) ≡ 0
 unfolding streamBytes
 length-none = refl
 
-pub length-head : (layer datatype : ℕ) (k : Option ℕ) (l : Extent) (n : ℕ)
-    → length (pathHead layer datatype k l n) ≡ headLength (isSome k) (isSome (l .width)) (isSome (l .begin)) (isSome (l .end))
+pub length-head : (layer datatype : ℕ) (k : Option ℕ) (l : OptExtent) (n : ℕ)
+    → length (pathHead layer datatype k l n) ≡ flagsLength (isSome k) (isSome (l .width)) (isSome (l .begin)) (isSome (l .end))
 unfolding pathHead
 length-head layer datatype k l n =
     let w4 = opt (longRecord ENDEXTN) (l .end) [] in
@@ -126,9 +138,9 @@ length-head layer datatype k l n =
         → s1 + 4 ≡ 20 + (a + (b + (c + d)))
     go s1 s2 s3 s4 s5 s6 s7 s8 a b c d h1 h2 h3 h4 h5 h6 h7 h8 = omega arith
 
-pub length-path : (layer datatype : ℕ) (k : Option ℕ) (l : Extent) (ps : List (Point ℤ)) (n : ℕ) → length ps ≡ n
+pub length-path : (layer datatype : ℕ) (k : Option ℕ) (l : OptExtent) (ps : List (Point ℤ)) (n : ℕ) → length ps ≡ n
     → length (pathBytes (record { layer = layer; datatype = datatype; pathType = k; width = l .width; begin = l .begin; end = l .end; points = ps }))
-    ≡ headLength (isSome k) (isSome (l .width)) (isSome (l .begin)) (isSome (l .end)) + 8 * n
+    ≡ flagsLength (isSome k) (isSome (l .width)) (isSome (l .begin)) (isSome (l .end)) + 8 * n
 length-path layer datatype k l ps n h =
     ap length (path-split layer datatype k l ps n h) ∙ length-append (pathHead layer datatype k l n) (pointsBytes ps)
     ∙ ap₂ _+_ (length-head layer datatype k l n) (length-bytes ps ∙ ap (λ (k : ℕ). 8 * k) h)
@@ -143,46 +155,44 @@ none-at : (d : List ℕ) (at : ℕ) → at ≤ length d → Placed (streamBytes 
 unfolding streamBytes
 none-at d at h = placed (nothing-at d at h) refl
 
-pub extent-at : (wide begun ended : Bool) {z1 q1 z2 q2 z3 q3 : ℤ} {d d1 d2 d3 : List ℕ} {at a1 a2 a3 : ℕ} → z1 ≡ q1 → z2 ≡ q2 → z3 ≡ q3
-    → Placed (optBytes (longRecord WIDTH) (optionOf wide z1)) (cond wide 8 0) d d1 at a1
-    → Placed (optBytes (longRecord BGNEXTN) (optionOf begun z2)) (cond begun 8 0) d1 d2 a1 a2
-    → Placed (optBytes (longRecord ENDEXTN) (optionOf ended z3)) (cond ended 8 0) d2 d3 a2 a3
-    → Placed (streamBytes (extentRecords (extent wide q1 begun q2 ended q3) [])) (extentLength wide begun ended) d d3 at a3
-extent-at wide begun ended {z1} {q1} {z2} {q2} {z3} {q3} {d} {d1} {d2} {d3} {at} {a1} {a2} {a3} i1 i2 i3 u v w =
+-- z1, z2 and z3 are what the machine reads back of the lengths
+pub extent-at : (x : Extent) {z1 z2 z3 : ℤ} {d d1 d2 d3 : List ℕ} {at a1 a2 a3 : ℕ} → z1 ≡ x .width → z2 ≡ x .begin → z3 ≡ x .end
+    → Placed (optBytes (longRecord WIDTH) (optionOf (x .wide) z1)) (cond (x .wide) 8 0) d d1 at a1
+    → Placed (optBytes (longRecord BGNEXTN) (optionOf (x .begun) z2)) (cond (x .begun) 8 0) d1 d2 a1 a2
+    → Placed (optBytes (longRecord ENDEXTN) (optionOf (x .ended) z3)) (cond (x .ended) 8 0) d2 d3 a2 a3
+    → Placed (streamBytes (extentRecords (optExtent x) [])) (extentLength x) d d3 at a3
+extent-at x {z1} {z2} {z3} {d} {d1} {d2} {d3} {at} {a1} {a2} {a3} i1 i2 i3 u v w =
     let c = w .wrote .count in
     let f = w .wrote .fits in
     let s = w .long in
     let k : a3 ≤ length d3 = omega arith in
-    subst (λ (l : Extent). Placed (streamBytes (extentRecords l [])) (extentLength wide begun ended) d d3 at a3) (same-extent wide begun ended i1 i2 i3)
-    (resized (go (cond wide 8 0) (cond begun 8 0) (cond ended 8 0))
-    (then-opt (longRecord WIDTH) (optionOf wide z1) _ u (then-opt (longRecord BGNEXTN) (optionOf begun z2) _ v
-    (then-opt (longRecord ENDEXTN) (optionOf ended z3) [] w (none-at d3 a3 k)))))
+    subst (λ (l : OptExtent). Placed (streamBytes (extentRecords l [])) (extentLength x) d d3 at a3) (same-extent (x .wide) (x .begun) (x .ended) i1 i2 i3)
+    (resized (go (cond (x .wide) 8 0) (cond (x .begun) 8 0) (cond (x .ended) 8 0))
+    (then-opt (longRecord WIDTH) (optionOf (x .wide) z1) _ u (then-opt (longRecord BGNEXTN) (optionOf (x .begun) z2) _ v
+    (then-opt (longRecord ENDEXTN) (optionOf (x .ended) z3) [] w (none-at d3 a3 k)))))
   where
     go : (a b c : ℕ) → a + (b + (c + 0)) ≡ a + (b + c)
     go a b c = omega arith
 
-pub head-at : (layer datatype : ℕ) (typed : Bool) (k : ℕ) (l l′ : Extent) (n m : ℕ) {d d1 d2 d3 d4 d5 d6 : List ℕ} {at a1 a2 a3 a4 a5 a6 : ℕ} → l ≡ l′
+-- the byte for the path type is k
+pub head-at : (layer datatype : ℕ) (typed : Bool) (k : ℕ) (x : Extent) (n : ℕ) {d d1 d2 d3 d4 d5 d6 : List ℕ} {at a1 a2 a3 a4 a5 a6 : ℕ} → typed ≡ isSome (pathTypeOf k)
     → Placed (recordBytes (emptyRecord PATH)) 4 d d1 at a1 → Placed (recordBytes (wordRecord LAYER layer)) 6 d1 d2 a1 a2
     → Placed (recordBytes (wordRecord DATATYPE datatype)) 6 d2 d3 a2 a3 → Placed (optBytes (wordRecord PATHTYPE) (optionOf typed k)) (cond typed 6 0) d3 d4 a3 a4
-    → Placed (streamBytes (extentRecords l [])) m d4 d5 a4 a5 → Placed (headBytes (4 + 8 * n) XY fourByte) 4 d5 d6 a5 a6
-    → Placed (pathHead layer datatype (optionOf typed k) l′ n) (20 + (cond typed 6 0 + m)) d d6 at a6
+    → Placed (streamBytes (extentRecords (optExtent x) [])) (extentLength x) d4 d5 a4 a5 → Placed (headBytes (4 + 8 * n) XY fourByte) 4 d5 d6 a5 a6
+    → Placed (pathHead layer datatype (pathTypeOf k) (optExtent x) n) (headLength (isSome (pathTypeOf k)) x) d d6 at a6
 unfolding pathHead
-head-at layer datatype typed k l l′ n m {d4 = d4} {d5 = d5} {a4 = a4} {a5 = a5} e p q r s t u =
-    resized (go (cond typed 6 0) m)
-    (then-placed (then-rest (emptyRecord PATH) _ p (then-rest (wordRecord LAYER layer) _ q (then-rest (wordRecord DATATYPE datatype) _ r
-    (then-opt (wordRecord PATHTYPE) (optionOf typed k) _ s (subst (λ (l : Extent). Placed (streamBytes (extentRecords l [])) m d4 d5 a4 a5) e t))))) u)
+head-at layer datatype typed k x n {d} {d6 = d6} {at = at} {a6 = a6} e p q r s t u =
+    subst (λ (o : Option ℕ). Placed (pathHead layer datatype o (optExtent x) n) (headLength (isSome (pathTypeOf k)) x) d d6 at a6) (ap (λ (b : Bool). optionOf b k) e ∙ type-back k)
+    (resized (go (cond typed 6 0) (extentLength x) ∙ ap (λ (b : Bool). headLength b x) e)
+    (then-placed (then-rest (emptyRecord PATH) _ p (then-rest (wordRecord LAYER layer) _ q (then-rest (wordRecord DATATYPE datatype) _ r (then-opt (wordRecord PATHTYPE) (optionOf typed k) _ s t)))) u))
   where
     go : (a b : ℕ) → 4 + (6 + (6 + (a + b))) + 4 ≡ 20 + (a + b)
     go a b = omega arith
 
 -- ---- the room that the sheet asks for is the room that the code counts on
 
-pub path-room : (p : S.Path) (typed wide begun ended : Bool) (start m : ℕ) → typed ≡ isSome (p .pathType) → wide ≡ isSome (p .width) → begun ≡ isSome (p .begin) → ended ≡ isSome (p .end)
-    → start + pathLength p ≤ m → start + headLength typed wide begun ended + 8 * length (p .points) ≤ m
+pub path-room : (p : S.Path) (n : ℕ) (x : Extent) (e : Entry) → Fits p n x e → pathLength p ≡ headLength (isSome (p .pathType)) x + 8 * length (p .points)
 unfolding pathLength
-path-room p typed wide begun ended start m t w b n h =
-    let e = ap₂ (λ (x y : Bool). headLength x y begun ended) t w ∙ ap₂ (λ (x y : Bool). headLength (isSome (p .pathType)) (isSome (p .width)) x y) b n in
-    go start (headLength typed wide begun ended) (headLength (isSome (p .pathType)) (isSome (p .width)) (isSome (p .begin)) (isSome (p .end))) (8 * length (p .points)) e h
-  where
-    go : (s a b k : ℕ) → a ≡ b → s + (b + k) ≤ m → s + a + k ≤ m
-    go s a b k e h = omega arith
+path-room p n x e f =
+    sym (ap (λ (t : Bool). flagsLength (isSome (p .pathType)) t (x .begun) (x .ended) + 8 * length (p .points)) (f .wide-is)
+    ∙ ap₂ (λ (t u : Bool). flagsLength (isSome (p .pathType)) (isSome (p .width)) t u + 8 * length (p .points)) (f .begun-is) (f .ended-is))

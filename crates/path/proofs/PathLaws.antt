@@ -1,8 +1,8 @@
 -- Measuring and writing a path: each way out of the code, and the length of what the definition gives. Assumes nothing.
-use mathlib.Core.Path.{_≡_, refl, sym, ap, ap₂, _∙_}
+use mathlib.Core.Path.{_≡_, refl, sym, ap, ap₂, _∙_, subst}
 use mathlib.Core.Bool.{Bool}
 use mathlib.Core.Option.{Option, none, some}
-use mathlib.Core.List.{List, [], _∷_, _++_}
+use mathlib.Core.List.{List, _++_}
 use Prim.Native.Nat.{ℕ, _+_, _*_, _≤_}
 use native.Mathlib.Omega.{arith}
 use lib.ListN.{length, length-append}
@@ -24,23 +24,52 @@ use Rattle.conversion.proofs.FoldLaws.{run-bind, run-then, run-pure, run-map, r
 use Rattle.sheet.specs.Element as S
 use Rattle.stream.specs.Structure as D
 use Rattle.stream.specs.Records.{pointsBytes}
-use Rattle.records.specs.code.Bytes.{Placed, optionOf}
-use Rattle.steps.specs.declared.Measured.{Measured}
+use Rattle.records.specs.code.Bytes.{xyPointLength, Placed}
 use Rattle.steps.specs.declared.Measured.the-variants as M
 use Rattle.steps.specs.declared.Written.{Written}
 use Rattle.steps.specs.code.Steps.{sizing, Measures, Writes}
 use Rattle.steps.proofs.StepLaws.{run-through, stopped, written, putting, writes, outcome-of}
+use Rattle.cell.specs.Limits.{minPathPoints, maxPoints}
 use Rattle.cell.specs.Write.{isSome, writePath}
+use Rattle.forms.specs.declared.PathPlaces.{PathPlaces}
+use Rattle.forms.specs.code.Forms.{pathTypeOf, pathAt}
 use Rattle.points.specs.declared.Walked.{Walked}
 use Rattle.points.specs.declared.Walked.the-variants as W
-use Rattle.points.specs.code.Walk.{through, walked}
-use Rattle.points.proofs.WalkLaws.{run-counted}
+use Rattle.points.specs.code.Walk.{walked, withLength}
+use Rattle.points.proofs.WalkLaws.{length-from, run-counted}
+use Rattle.points.proofs.EndsLaws.{ends-length}
+use Rattle.path.specs.declared.Extent.{Extent}
 use Rattle.path.specs.declared.Lengths.{Lengths}
 use Rattle.path.specs.declared.Lengths.the-variants as F
-use Rattle.path.specs.code.Front.{Extent, extent, writeExtent, writeFront, GivesExtent}
-use Rattle.path.specs.code.Length.{pathBytes, pathHead, headLength, pathLength}
-use Rattle.path.proofs.FrontLaws.{same-extent, drawn, path-is, front-stops, front-goes-on}
-use Rattle.path.proofs.LengthLaws.{flag-is, path-split, length-path}
+use Rattle.path.specs.code.Front.{OptExtent, optExtent, writeExtent, writeFront, ExtentFits, GivesExtent}
+use Rattle.path.specs.code.Length.{pathBytes, pathHead, flagsLength, headLength, pathLength}
+use Rattle.path.proofs.FrontLaws.{drawn, path-is, front-stops, front-goes-on, front-counted}
+use Rattle.path.proofs.LengthLaws.{flag-is, path-split, length-path, path-room}
+
+-- ---- where the front of the path at s gave the lengths x
+
+pub record Known (b : List ℕ) (s : PathPlaces) (e : Entry) (x : Extent) (e′ : Entry) : Type 0 where
+  pub some : minPathPoints ≤ s .points .count
+  pub counted : s .points .count ≤ maxPoints
+  pub room : pathLength (pathAt b s) ≡ headLength (isSome (pathTypeOf (s .pathtype))) x + xyPointLength * s .points .count
+  pub grown : e′ .count ≤ e .count + 3
+
+pub front-known : (policy : GdsRoundingPolicy) (d : Float) (b : List ℕ) (s : PathPlaces) (e : Entry) (r : Lengths) → GivesExtent (pathAt b s) e (writeFront policy d (pathAt b s)) r
+    → (x : Extent) (e′ : Entry) → r ≡ F.At x e′ → Known b s e x e′
+unfolding pathAt
+front-known policy d b s e r h x e′ g =
+    let p = pathAt b s in
+    let n = length-from (s .points .count) b (s .points .place) in
+    let counts = front-counted policy d p e r h x e′ g in
+    let least = counts .0 in
+    let most = counts .1 in
+    let f = subst (ExtentFits p (e .count)) g (h .fits) in
+    record {
+      some = omega arith;
+      counted = omega arith;
+      room = path-room p (e .count) x e′ f ∙ ap (λ (k : ℕ). headLength (isSome (p .pathType)) x + 8 * k) n;
+      grown = f .grown;
+    }
 
 module _ (policy : GdsRoundingPolicy) (d : Float) (p : S.Path) (e : Entry) (r : Lengths) (h : GivesExtent p e (writeFront policy d p) r) where
   -- ---- refused before the points
@@ -49,70 +78,50 @@ module _ (policy : GdsRoundingPolicy) (d : Float) (p : S.Path) (e : Entry) (r : 
   measure-refused x g = front-stops policy d p M.Refused e (sizing pathBytes) r h x g
 
   -- ---- after the front
-  module _ (w : Bool) (q1 : ℤ) (b : Bool) (q2 : ℤ) (n : Bool) (q3 : ℤ) (e′ : Entry) (g : r ≡ F.At w q1 b q2 n q3 e′) where
-    abbrev l : Extent
-    l = extent w q1 b q2 n q3
+  module _ (x : Extent) (e′ : Entry) (g : r ≡ F.At x e′) where
+    abbrev l : OptExtent
+    l = optExtent x
 
-    size : (ps : List (Point ℤ)) → length ps ≡ length (p .points) → length (pathBytes (drawn policy d p l ps)) ≡ headLength (isSome (p .pathType)) w b n + 8 * length (p .points)
+    size : (ps : List (Point ℤ)) → length ps ≡ length (p .points) → length (pathBytes (drawn policy d p l ps)) ≡ headLength (isSome (p .pathType)) x + 8 * length (p .points)
     size ps i =
         length-path (p .layer) (p .datatype) (p .pathType) l ps (length (p .points)) i
-        ∙ ap (λ (t : Bool). headLength (isSome (p .pathType)) t (isSome (optionOf b q2)) (isSome (optionOf n q3)) + 8 * length (p .points)) (flag-is w q1)
-        ∙ ap₂ (λ (t u : Bool). headLength (isSome (p .pathType)) w t u + 8 * length (p .points)) (flag-is b q2) (flag-is n q3)
+        ∙ ap (λ (t : Bool). flagsLength (isSome (p .pathType)) t (isSome (l .begin)) (isSome (l .end)) + 8 * length (p .points)) (flag-is (x .wide) (x .width))
+        ∙ ap₂ (λ (t u : Bool). flagsLength (isSome (p .pathType)) (x .wide) t u + 8 * length (p .points)) (flag-is (x .begun) (x .begin)) (flag-is (x .ended) (x .end))
 
-    module _ (k : ℕ) (i : k ≡ headLength (isSome (p .pathType)) w b n + 8 * length (p .points)) (s : Walked) (v : s ≡ run W.Refused e′ (writePoints policy d 0 (p .points)) walked) where
-      abbrev measured : Walked → Measured
-      measured (W.Refused x) = M.Refused x
-      measured (W.Through x0 y0 x1 y1 e″) = M.Through k e″
+    -- measured: s is what the points answer
+    pub path-measured : (k : ℕ) → k ≡ headLength (isSome (p .pathType)) x + 8 * length (p .points) → (s : Walked) → s ≡ run W.Refused e′ (writePoints policy d 0 (p .points)) walked
+        → Measures pathBytes e (writePath policy d p) (withLength k s)
+    unfolding sizing
+    path-measured k i s v =
+        ap (withLength k) v
+        ∙ run-through W.Refused walked (withLength k) M.Refused (λ ps e″. M.Through k e″) (λ x. refl) (ends-length k) e′ (writePoints policy d 0 (p .points))
+        ∙ run-counted M.Refused policy d 0 (p .points) e′ (λ ps e″. M.Through k e″) (λ ps e″. sizing pathBytes (drawn policy d p l ps) e″) (λ ps e″ j. ap (λ (m : ℕ). M.Through m e″) (i ∙ sym (size ps j)))
+        ∙ front-goes-on policy d p M.Refused e (sizing pathBytes) r h x e′ g
 
-      each : (ps : List (Point ℤ)) (e″ : Entry) → measured (walked ps e″) ≡ M.Through k e″
-      unfolding walked through
-      each [] e″ = refl
-      each (q ∷ ps) e″ = refl
-
-      answer : measured s ≡ run M.Refused e (writePath policy d p) (sizing pathBytes)
-      unfolding sizing
-      answer =
-          ap measured v
-          ∙ run-through W.Refused walked measured M.Refused (λ ps e″. M.Through k e″) (λ x. refl) each e′ (writePoints policy d 0 (p .points))
-          ∙ run-counted M.Refused policy d 0 (p .points) e′ (λ ps e″. M.Through k e″) (λ ps e″. sizing pathBytes (drawn policy d p l ps) e″) (λ ps e″ j. ap (λ (m : ℕ). M.Through m e″) (i ∙ sym (size ps j)))
-          ∙ front-goes-on policy d p M.Refused e (sizing pathBytes) r h w q1 b q2 n q3 e′ g
-
-      pub points-refused : (x : Refusal) → s ≡ W.Refused x → Measures pathBytes e (writePath policy d p) (M.Refused x)
-      points-refused x j = ap measured (sym j) ∙ answer
-
-      pub path-measured : (x0 y0 x1 y1 : ℤ) (e″ : Entry) → s ≡ W.Through x0 y0 x1 y1 e″ → Measures pathBytes e (writePath policy d p) (M.Through k e″)
-      path-measured x0 y0 x1 y1 e″ j = ap measured (sym j) ∙ answer
-
-    -- written: the head, then the points, where z1, z2 and z3 are what the machine reads back of the lengths
-    module _ (k : Option ℕ) (i : k ≡ p .pathType) (m : ℕ) (j : m ≡ length (p .points)) (z1 z2 z3 : ℤ) (i1 : z1 ≡ q1) (i2 : z2 ≡ q2) (i3 : z3 ≡ q3) (size : ℕ) (at to : ℕ) (before cur : List ℕ)
-        (u : Placed (pathHead (p .layer) (p .datatype) k (extent w z1 b z2 n z3) m) size before cur at to) where
-      head-is : pathHead (p .layer) (p .datatype) k (extent w z1 b z2 n z3) m ≡ pathHead (p .layer) (p .datatype) (p .pathType) l m
-      head-is = ap₂ (λ (o : Option ℕ) (x : Extent). pathHead (p .layer) (p .datatype) o x m) i (same-extent w b n i1 i2 i3)
+    -- written: the head, then the points, n of them
+    module _ (n : ℕ) (j : n ≡ length (p .points)) {m at to : ℕ} {before cur : List ℕ} (u : Placed (pathHead (p .layer) (p .datatype) (p .pathType) l n) m before cur at to) where
+      abbrev head : List ℕ
+      head = pathHead (p .layer) (p .datatype) (p .pathType) l n
 
       joined : (ps : List (Point ℤ)) (e″ : Entry) → length ps ≡ length (p .points) → putting pointsBytes to cur ps e″ ≡ putting pathBytes at before (drawn policy d p l ps) e″
       unfolding putting
-      joined ps e″ x =
-          let c = ap (λ (s : List ℕ). s ++ pointsBytes ps) head-is ∙ sym (path-split (p .layer) (p .datatype) (p .pathType) l ps m (x ∙ sym j)) in
+      joined ps e″ k =
+          let c = sym (path-split (p .layer) (p .datatype) (p .pathType) l ps n (k ∙ sym j)) in
           ap₂ (λ (o : List ℕ) (t : ℕ). written o t e″)
           (sym (at-turn (u .wrote) (pointsBytes ps)) ∙ ap (λ (s : List ℕ). splice at s before) c)
-          (sum ps ∙ ap (λ (s : List ℕ). at + length s) c)
+          (go at to (length head) (length (pointsBytes ps)) (length (head ++ pointsBytes ps)) (u .wrote .count) (length-append head (pointsBytes ps)) ∙ ap (λ (s : List ℕ). at + length s) c)
         where
           go : (at to a b s : ℕ) → to ≡ at + a → s ≡ a + b → to + b ≡ at + s
           go at to a b s h k = omega arith
 
-          sum : (ps : List (Point ℤ)) → to + length (pointsBytes ps) ≡ at + length (pathHead (p .layer) (p .datatype) k (extent w z1 b z2 n z3) m ++ pointsBytes ps)
-          sum ps =
-              let hs = pathHead (p .layer) (p .datatype) k (extent w z1 b z2 n z3) m in
-              go at to (length hs) (length (pointsBytes ps)) (length (hs ++ pointsBytes ps)) (u .wrote .count) (length-append hs (pointsBytes ps))
-
-      pub path-written : (last : List ℕ) (s : Written) → Writes pointsBytes e′ (writePoints policy d 0 (p .points)) to cur last s → Writes pathBytes e (writePath policy d p) at before last s
-      path-written last s x =
+      pub path-written : {last : List ℕ} {s : Written} → Writes pointsBytes e′ (writePoints policy d 0 (p .points)) to cur last s → Writes pathBytes e (writePath policy d p) at before last s
+      path-written {last} {s} w =
           writes pathBytes e (writePath policy d p) at before last (s .to) (s .entry)
           (sym
           (run-counted stopped policy d 0 (p .points) e′ (putting pointsBytes to cur) (λ ps e″. putting pathBytes at before (drawn policy d p l ps) e″) joined
-          ∙ front-goes-on policy d p stopped e (putting pathBytes at before) r h w q1 b q2 n q3 e′ g)
-          ∙ outcome-of pointsBytes e′ (writePoints policy d 0 (p .points)) to cur last x)
-          (go (s .to) _ _ (x .wrote .count) (x .wrote .fits) (u .long))
+          ∙ front-goes-on policy d p stopped e (putting pathBytes at before) r h x e′ g)
+          ∙ outcome-of pointsBytes e′ (writePoints policy d 0 (p .points)) to cur last w)
+          (go (s .to) _ _ (w .wrote .count) (w .wrote .fits) (u .long))
         where
           go : (k m c : ℕ) → k ≡ to + m → to + m ≤ c → c ≡ length before → k ≤ length before
           go k m c f g h = omega arith
@@ -120,7 +129,7 @@ module _ (policy : GdsRoundingPolicy) (d : Float) (p : S.Path) (e : Entry) (r : 
 -- ---- what comes out is there as on the sheet: what follows may count on it
 
 -- the lengths that are on the sheet
-record Kept (p : S.Path) (x : Extent) : Type 0 where
+record Kept (p : S.Path) (x : OptExtent) : Type 0 where
   width : isSome (x .width) ≡ isSome (p .width)
   begin : isSome (x .begin) ≡ isSome (p .begin)
   end : isSome (x .end) ≡ isSome (p .end)
@@ -134,20 +143,20 @@ module _ (policy : GdsRoundingPolicy) (d : Float) {Z : Type 0} (stop : Refusal �
       run-map stop e _ some k ∙ run-same stop e _ _ _ (λ q e′. h (some q) e′ refl) ∙ sym (run-map stop e _ some l)
 
   module _ (p : S.Path) where
-    expanded : (e : Entry) (k : Extent → Entry → Z) → run stop e (writeExtent policy d p) k
+    expanded : (e : Entry) (k : OptExtent → Entry → Z) → run stop e (writeExtent policy d p) k
         ≡ run stop e (writeLength policy d widthField (p .width)) (λ w e1. run stop e1 (writeLength policy d beginField (p .begin)) (λ b e2. run stop e2 (writeLength policy d endField (p .end)) (λ n e3. k (record { width = w; begin = b; end = n }) e3)))
     unfolding writeExtent
     expanded e k =
         run-bind stop e _ _ k ∙ run-same stop e _ _ _ (λ w e1. run-bind stop e1 _ _ k ∙ run-same stop e1 _ _ _ (λ b e2. run-map stop e2 _ (λ n. record { width = w; begin = b; end = n }) k))
 
-    run-extent : (e : Entry) (k l : Extent → Entry → Z) → ((x : Extent) (e′ : Entry) → Kept p x → k x e′ ≡ l x e′) → run stop e (writeExtent policy d p) k ≡ run stop e (writeExtent policy d p) l
+    run-extent : (e : Entry) (k l : OptExtent → Entry → Z) → ((x : OptExtent) (e′ : Entry) → Kept p x → k x e′ ≡ l x e′) → run stop e (writeExtent policy d p) k ≡ run stop e (writeExtent policy d p) l
     run-extent e k l h =
         expanded e k
         ∙ run-length widthField (p .width) e _ _ (λ w e1 h1. run-length beginField (p .begin) e1 _ _ (λ b e2 h2. run-length endField (p .end) e2 _ _ (λ n e3 h3.
         h (record { width = w; begin = b; end = n }) e3 (record { width = h1; begin = h2; end = h3 }))))
         ∙ sym (expanded e l)
 
-    run-front : (e : Entry) (k l : Extent → Entry → Z) → ((x : Extent) (e′ : Entry) → Kept p x → k x e′ ≡ l x e′) → run stop e (writeFront policy d p) k ≡ run stop e (writeFront policy d p) l
+    run-front : (e : Entry) (k l : OptExtent → Entry → Z) → ((x : OptExtent) (e′ : Entry) → Kept p x → k x e′ ≡ l x e′) → run stop e (writeFront policy d p) k ≡ run stop e (writeFront policy d p) l
     unfolding writeFront
     run-front e k l h =
         run-then stop e _ _ k
@@ -155,7 +164,7 @@ module _ (policy : GdsRoundingPolicy) (d : Float) {Z : Type 0} (stop : Refusal �
         ∙ sym (run-then stop e _ _ l)
 
     run-path : (e : Entry) (k l : D.Path → Entry → Z)
-        → ((x : Extent) (ps : List (Point ℤ)) (e′ : Entry) → Kept p x → length ps ≡ length (p .points) → k (drawn policy d p x ps) e′ ≡ l (drawn policy d p x ps) e′)
+        → ((x : OptExtent) (ps : List (Point ℤ)) (e′ : Entry) → Kept p x → length ps ≡ length (p .points) → k (drawn policy d p x ps) e′ ≡ l (drawn policy d p x ps) e′)
         → run stop e (writePath policy d p) k ≡ run stop e (writePath policy d p) l
     run-path e k l h =
         whole k
@@ -176,8 +185,8 @@ path-length policy d p w vs h =
     ∙ run-path policy d (λ x. 0) p (blankEntry 0 0) (λ y e. length (pathBytes y)) (λ y e. pathLength p) each
     ∙ ap (λ (m : Made D.Path). run (λ x. 0) (blankEntry 0 0) m (λ y e. pathLength p)) h
   where
-    each : (x : Extent) (ps : List (Point ℤ)) (e : Entry) → Kept p x → length ps ≡ length (p .points) → length (pathBytes (drawn policy d p x ps)) ≡ pathLength p
+    each : (x : OptExtent) (ps : List (Point ℤ)) (e : Entry) → Kept p x → length ps ≡ length (p .points) → length (pathBytes (drawn policy d p x ps)) ≡ pathLength p
     each x ps e g c =
         length-path (p .layer) (p .datatype) (p .pathType) x ps (length (p .points)) c
-        ∙ ap (λ (t : Bool). headLength (isSome (p .pathType)) t (isSome (x .begin)) (isSome (x .end)) + 8 * length (p .points)) (g .width)
-        ∙ ap₂ (λ (t u : Bool). headLength (isSome (p .pathType)) (isSome (p .width)) t u + 8 * length (p .points)) (g .begin) (g .end)
+        ∙ ap (λ (t : Bool). flagsLength (isSome (p .pathType)) t (isSome (x .begin)) (isSome (x .end)) + 8 * length (p .points)) (g .width)
+        ∙ ap₂ (λ (t u : Bool). flagsLength (isSome (p .pathType)) (isSome (p .width)) t u + 8 * length (p .points)) (g .begin) (g .end)

@@ -2,47 +2,30 @@
 ghost use mathlib.Core.Path.{_≡_};
 ghost use mathlib.Core.Bool.{cond};
 ghost use mathlib.Core.List.{[]};
-ghost use Prim.Native.Nat.{_+_, _*_, _≤_, _<_};
+ghost use Prim.Native.Nat.{_+_, _≤_};
 ghost use lib.ListN.{length};
 ghost use Rattle.stream.specs.Record.{streamBytes};
+ghost use Rattle.conversion.specs.code.Fold.{Spare};
 ghost use Rattle.conversion.specs.Points.{writeLength};
 ghost use Rattle.cell.specs.Limits.{maxPoints};
 ghost use Rattle.cell.specs.Write.{isSome, writePath};
-ghost use Rattle.records.specs.code.Bytes.{Placed, optionOf};
-ghost use Rattle.steps.specs.code.Steps.{Measures, Succeeds, Writes};
+ghost use Rattle.records.specs.code.Bytes.{Placed};
+ghost use Rattle.steps.specs.code.Steps.{maxDeviations, Measures, Succeeds, Writes};
 ghost use Rattle.forms.specs.code.Place.{coordinateAt, coordinateLength};
 ghost use Rattle.forms.specs.code.Forms.{pathTypeOf, pathAt, PathIn};
-ghost use Rattle.path.specs.code.Front.{extent, writeExtent, writeFront, GivesLength, GivesExtent};
+ghost use Rattle.path.specs.code.Front.{optExtent, writeExtent, writeFront, GivesLength, GivesExtent};
 ghost use Rattle.path.specs.code.Length.{pathBytes, extentRecords, pathHead, extentLength, headLength, HeadSize, pathLength};
 use conversion::CoordinateConverter;
 use conversion::Entry;
 use coordinate::Valued;
 use forms::PathPlaces;
-use points::Walked;
 use refusal::Refusal;
 use steps::Measured;
 use steps::Written;
+use validation::Check;
 
-// "Points: .. path 2 to 8,191 .. Layer and type at most 255" (document 01).
+// "Points: .. path 2 to 8,191" (document 01).
 const MIN_PATH_POINTS: usize = 2;
-
-const MAX_POINTS: usize = 8191;
-
-const MAX_LAYER: u16 = 255;
-
-const MAX_DATA_TYPE: u16 = 255;
-
-// The sheet's byte for no path type.
-const NO_PATH_TYPE: u8 = 255;
-
-// The bytes of a point in an XY record, of a record's head, of a record of 2 bytes and of one of 4.
-const XY_POINT: usize = 8;
-
-const RECORD_HEAD: usize = 4;
-
-const WORD_RECORD: usize = 6;
-
-const LONG_RECORD: usize = 8;
 
 // PATH 4, LAYER 6, DATATYPE 6, and the head of the XY 4.
 const ALWAYS: usize = 20;
@@ -59,20 +42,20 @@ enum Length {
     },
 }
 
-// The three lengths, each if it is there, with the entry after them.
+// The three lengths on the grid, each if it is there.
+struct Extent {
+    wide: bool,
+    width: i32,
+    begun: bool,
+    begin: i32,
+    ended: bool,
+    end: i32,
+}
+
+// With the entry after them.
 enum Lengths {
-    Refused {
-        refusal: Refusal,
-    },
-    At {
-        wide: bool,
-        width: i32,
-        begun: bool,
-        begin: i32,
-        ended: bool,
-        end: i32,
-        entry: Entry,
-    },
+    Refused { refusal: Refusal },
+    At { extent: Extent, entry: Entry },
 }
 
 // ---- before the points
@@ -86,7 +69,7 @@ fn convert_length(
     entry: Entry,
 ) -> Length
     requires { ⌜ at + coordinateLength ≤ length (now b) ⌝ }
-    requires { ⌜ entry .count < 4294967295 ⌝ }
+    requires { ⌜ Spare 1 entry ⌝ }
     ensures { λ r. ⌜ GivesLength (isSome (coordinateAt (now (b .entry)) at)) entry (writeLength (converter .policy) (converter .d) field (coordinateAt (now (b .entry)) at)) r ⌝ }
 {
     if forms::is_absent(b, at) {
@@ -96,7 +79,8 @@ fn convert_length(
             entry,
         };
     }
-    match coordinate::convert_coordinate(converter, b, at, field, conversion::NO_AXIS, 0, entry) {
+    let c = coordinate::convert_at(converter, b, at);
+    match coordinate::record_quantization(c, field, conversion::NO_AXIS, 0, entry) {
         Valued::Refused { refusal } => Length::Refused { refusal },
         Valued::At { value, entry: e } => Length::At {
             there: true,
@@ -114,7 +98,7 @@ fn convert_lengths(
     entry: Entry,
 ) -> Lengths
     requires { ⌜ PathIn (now b) path ⌝ }
-    requires { ⌜ entry .count ≤ 13 ⌝ }
+    requires { ⌜ Spare 3 entry ⌝ }
     ensures { λ r. ⌜ GivesExtent (pathAt (now (b .entry)) path) entry (writeExtent (converter .policy) (converter .d) (pathAt (now (b .entry)) path)) r ⌝ }
 {
     match convert_length(converter, b, path.width, conversion::WIDTH_FIELD, entry) {
@@ -140,12 +124,14 @@ fn convert_lengths(
                             value: end,
                             entry: e3,
                         } => Lengths::At {
-                            wide,
-                            width,
-                            begun,
-                            begin,
-                            ended,
-                            end,
+                            extent: Extent {
+                                wide,
+                                width,
+                                begun,
+                                begin,
+                                ended,
+                                end,
+                            },
                             entry: e3,
                         },
                     }
@@ -163,32 +149,26 @@ fn convert_front(
     entry: Entry,
 ) -> Lengths
     requires { ⌜ PathIn (now b) path ⌝ }
-    requires { ⌜ entry .count ≤ 13 ⌝ }
+    requires { ⌜ Spare 3 entry ⌝ }
     ensures { λ r. ⌜ GivesExtent (pathAt (now (b .entry)) path) entry (writeFront (converter .policy) (converter .d) (pathAt (now (b .entry)) path)) r ⌝ }
 {
-    if !validation::within(MIN_PATH_POINTS, path.count, MAX_POINTS) {
-        return Lengths::Refused {
-            refusal: Refusal::PointCount,
-        };
+    match validation::check_shape(
+        MIN_PATH_POINTS,
+        path.points.count,
+        validation::MAX_POINTS,
+        path.layer,
+        path.datatype,
+    ) {
+        Check::Refused { refusal } => Lengths::Refused { refusal },
+        Check::Passed => convert_lengths(converter, b, path, entry),
     }
-    if MAX_LAYER < path.layer {
-        return Lengths::Refused {
-            refusal: Refusal::LayerOrType,
-        };
-    }
-    if MAX_DATA_TYPE < path.datatype {
-        return Lengths::Refused {
-            refusal: Refusal::LayerOrType,
-        };
-    }
-    convert_lengths(converter, b, path, entry)
 }
 
 // Whether the sheet's byte is a path type.
 fn has_path_type(pathtype: u8) -> bool
     ensures { λ r. ⌜ r ≡ isSome (pathTypeOf pathtype) ⌝ }
 {
-    pathtype != NO_PATH_TYPE
+    pathtype != forms::NO_PATH_TYPE
 }
 
 // ---- measured
@@ -201,13 +181,13 @@ fn size_if(there: bool, size: usize) -> usize
 }
 
 // The bytes of all records before the points, with the head of the XY.
-fn head_length(typed: bool, wide: bool, begun: bool, ended: bool) -> usize
-    ensures { λ r. ⌜ HeadSize typed wide begun ended r ⌝ }
+fn head_length(typed: bool, extent: Extent) -> usize
+    ensures { λ r. ⌜ HeadSize typed extent r ⌝ }
 {
-    let a = size_if(typed, WORD_RECORD);
-    let w = size_if(wide, LONG_RECORD);
-    let b = size_if(begun, LONG_RECORD);
-    let e = size_if(ended, LONG_RECORD);
+    let a = size_if(typed, records::WORD_RECORD);
+    let w = size_if(extent.wide, records::LONG_RECORD);
+    let b = size_if(extent.begun, records::LONG_RECORD);
+    let e = size_if(extent.ended, records::LONG_RECORD);
     ALWAYS + a + w + b + e
 }
 
@@ -219,34 +199,16 @@ pub fn measure_path(
     entry: Entry,
 ) -> Measured
     requires { ⌜ PathIn (now b) path ⌝ }
-    requires { ⌜ entry .count ≤ 13 ⌝ }
+    requires { ⌜ Spare maxDeviations entry ⌝ }
     ensures { λ r. ⌜ Measures pathBytes entry (writePath (converter .policy) (converter .d) (pathAt (now (b .entry)) path)) r ⌝ }
 {
     match convert_front(converter, b, path, entry) {
         Lengths::Refused { refusal } => Measured::Refused { refusal },
-        Lengths::At {
-            wide,
-            width: _,
-            begun,
-            begin: _,
-            ended,
-            end: _,
-            entry: e,
-        } => {
-            let n = head_length(has_path_type(path.pathtype), wide, begun, ended);
-            match points::measure_points(converter, b, path.points, path.count, e) {
-                Walked::Refused { refusal: refusal2 } => Measured::Refused { refusal: refusal2 },
-                Walked::Through {
-                    x0: _,
-                    y0: _,
-                    x1: _,
-                    y1: _,
-                    entry: more,
-                } => Measured::Through {
-                    length: n + XY_POINT * path.count,
-                    entry: more,
-                },
-            }
+        Lengths::At { extent, entry: e } => {
+            let points = path.points;
+            let walked = points::measure_points(converter, b, points, e);
+            let head = head_length(has_path_type(path.pathtype), extent);
+            points::with_length(walked, head + records::XY_POINT * points.count)
         }
     }
 }
@@ -254,91 +216,51 @@ pub fn measure_path(
 // ---- written
 
 // WIDTH, BGNEXTN and ENDEXTN, each if it is there.
-fn put_extent(
-    out: &mut [u8],
-    at: usize,
-    wide: bool,
-    width: i32,
-    begun: bool,
-    begin: i32,
-    ended: bool,
-    end: i32,
-) -> usize
-    requires { ⌜ at + extentLength wide begun ended ≤ length (now out) ⌝ }
-    ensures { λ r. ⌜ Placed (streamBytes (extentRecords (extent wide width begun begin ended end) [])) (extentLength wide begun ended) (now (out .entry)) (now (out .exit)) at r ⌝ }
+fn put_extent(out: &mut [u8], at: usize, extent: Extent) -> usize
+    requires { ⌜ at + extentLength extent ≤ length (now out) ⌝ }
+    ensures { λ r. ⌜ Placed (streamBytes (extentRecords (optExtent extent) [])) (extentLength extent) (now (out .entry)) (now (out .exit)) at r ⌝ }
 {
-    let w = records::put_opt_long_at(out, at, records::WIDTH, wide, width);
-    let b = records::put_opt_long_at(out, w, records::BGNEXTN, begun, begin);
-    records::put_opt_long_at(out, b, records::ENDEXTN, ended, end)
+    let w = records::put_opt_long_at(out, at, records::WIDTH, extent.wide, extent.width);
+    let b = records::put_opt_long_at(out, w, records::BGNEXTN, extent.begun, extent.begin);
+    records::put_opt_long_at(out, b, records::ENDEXTN, extent.ended, extent.end)
 }
 
 // All records before the points, with the head of the XY.
-fn put_head(
-    out: &mut [u8],
-    at: usize,
-    path: PathPlaces,
-    typed: bool,
-    wide: bool,
-    width: i32,
-    begun: bool,
-    begin: i32,
-    ended: bool,
-    end: i32,
-) -> usize
-    requires { ⌜ path .count ≤ maxPoints ⌝ }
-    requires { ⌜ at + headLength typed wide begun ended ≤ length (now out) ⌝ }
-    ensures { λ r. ⌜ Placed (pathHead (path .layer) (path .datatype) (optionOf typed (path .pathtype)) (extent wide width begun begin ended end) (path .count)) (headLength typed wide begun ended) (now (out .entry)) (now (out .exit)) at r ⌝ }
+fn put_head(out: &mut [u8], path: PathPlaces, extent: Extent) -> usize
+    requires { ⌜ path .points .count ≤ maxPoints ⌝ }
+    requires { ⌜ headLength (isSome (pathTypeOf (path .pathtype))) extent ≤ length (now out) ⌝ }
+    ensures { λ r. ⌜ Placed (pathHead (path .layer) (path .datatype) (pathTypeOf (path .pathtype)) (optExtent extent) (path .points .count)) (headLength (isSome (pathTypeOf (path .pathtype))) extent) (now (out .entry)) (now (out .exit)) 0 r ⌝ }
 {
-    let p = records::put_empty_at(out, at, records::PATH);
+    let n = (records::RECORD_HEAD + records::XY_POINT * path.points.count) as u16;
+    let typed = has_path_type(path.pathtype);
+    let p = records::put_empty_at(out, 0, records::PATH);
     let l = records::put_word_at(out, p, records::LAYER, records::TWO_BYTE, path.layer);
     let t = records::put_word_at(out, l, records::DATATYPE, records::TWO_BYTE, path.datatype);
     let k = records::put_opt_word_at(out, t, records::PATHTYPE, typed, path.pathtype as u16);
-    let x = put_extent(out, k, wide, width, begun, begin, ended, end);
-    let n = (RECORD_HEAD + XY_POINT * path.count) as u16;
+    let x = put_extent(out, k, extent);
     records::put_head_at(out, x, n, records::XY, records::FOUR_BYTE)
 }
 
-// All records from a place of the output on: every length is converted before the first byte is written.
+// All records from the start of the output on: every length is converted before the first byte is written.
 pub fn put_path(
     converter: CoordinateConverter,
     b: &[u8],
     path: PathPlaces,
     out: &mut [u8],
-    start: usize,
     entry: Entry,
 ) -> Written
     requires { ⌜ PathIn (now b) path ⌝ }
     requires { ⌜ Succeeds (writePath (converter .policy) (converter .d) (pathAt (now b) path)) ⌝ }
-    requires { ⌜ entry .count ≤ 13 ⌝ }
-    requires { ⌜ start + pathLength (pathAt (now b) path) ≤ length (now out) ⌝ }
-    ensures { λ r. ⌜ Writes pathBytes entry (writePath (converter .policy) (converter .d) (pathAt (now (b .entry)) path)) start (now (out .entry)) (now (out .exit)) r ⌝ }
+    requires { ⌜ pathLength (pathAt (now b) path) ≤ length (now out) ⌝ }
+    requires { ⌜ Spare maxDeviations entry ⌝ }
+    ensures { λ r. ⌜ Writes pathBytes entry (writePath (converter .policy) (converter .d) (pathAt (now (b .entry)) path)) 0 (now (out .entry)) (now (out .exit)) r ⌝ }
 {
     match convert_lengths(converter, b, path, entry) {
         // Never: no length is refused.
-        Lengths::Refused { refusal: _ } => Written { to: start, entry },
-        Lengths::At {
-            wide,
-            width,
-            begun,
-            begin,
-            ended,
-            end,
-            entry: e,
-        } => {
-            let typed = has_path_type(path.pathtype);
-            let xy = put_head(
-                out,
-                start,
-                path,
-                typed,
-                wide,
-                width,
-                begun,
-                begin,
-                ended,
-                end,
-            );
-            points::put_points(converter, b, path.points, path.count, out, xy, e)
+        Lengths::Refused { refusal: _ } => Written { to: 0, entry },
+        Lengths::At { extent, entry: e } => {
+            let to = put_head(out, path, extent);
+            points::put_points(converter, b, path.points, out, to, e)
         }
     }
 }

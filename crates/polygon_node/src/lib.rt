@@ -126,8 +126,7 @@ fn put_shape_head(out: &mut [u8], code: u8, type_code: u8, places: ShapePlaces) 
     requires { ⌜ shapeHeadLength ≤ length (now out) ⌝ }
     ensures { λ r. ⌜ Placed (shapeHead code «type_code» (places .layer) (places .datatype) (places .points .count)) shapeHeadLength (now (out .entry)) (now (out .exit)) 0 r ⌝ }
 {
-    let points = places.points;
-    let len = (records::RECORD_HEAD + records::XY_POINT * points.count) as u16;
+    let len = (records::RECORD_HEAD + records::XY_POINT * places.points.count) as u16;
     let a = records::put_empty_at(out, 0, code);
     let b = records::put_word_at(out, a, records::LAYER, records::TWO_BYTE, places.layer);
     let c = records::put_word_at(out, b, type_code, records::TWO_BYTE, places.datatype);

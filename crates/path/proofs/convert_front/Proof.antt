@@ -1,47 +1,57 @@
--- `convert_front` meets its contract. Assumes nothing.
-use mathlib.Core.Path.{refl, sym, ap, _∙_}
-use mathlib.Core.Bool.{true, false}
+-- `path::convert_front` meets its contract: the checks, then the lengths. Assumes nothing.
+use mathlib.Core.Path.{_≡_, sym, ap, _∙_}
 use Prim.Native.Nat.{ℕ}
-use lib.Dec.{leb}
-use borrow.Author.Tests.{le-leb, lt-leb}
-use Rattle.cell.specs.Limits.{within}
+use lib.ListN.{length}
+use Rattle.cell.specs.Limits.{minPathPoints, maxPoints}
 use Rattle.forms.specs.code.Forms.{pathAt}
+use Rattle.validation.specs.code.Check.{checkOf, shapeChecks}
 use Rattle.points.proofs.WalkLaws.{length-from}
-use Rattle.validation.proofs.StampLaws.{was-true, was-false}
-use Rattle.steps.specs.code.Ready.{stopped, ready}
-use Rattle.path.proofs.FrontLaws.{wrong-count, right-count}
+use Rattle.path.proofs.FrontLaws.{checks-stop, checks-pass}
 use borrow.Author.Needs.{needs}
 use Rattle.path.proofs.convert_front.Statement.{statement}
 use Rattle.path.proofs.convert_front.Tie as tie
 
-within-requires : tie.Need-within-requires
-within-requires c κs = search needs
-
-returns : tie.Need-returns
+-- the answer of the checks stands for the checks of the path at its places
+checked : (k : tie.After-check-shape) → let a = k .before .before .args in let p = pathAt (a .b .now) (a .path) in checkOf (k .check-shape .result) ≡ shapeChecks minPathPoints (length (p .points)) maxPoints (p .layer) (p .datatype)
 unfolding pathAt
-returns c = let a = c .before .before .before .args in let p = pathAt (a .b .now) (a .path) in let h = ap (λ (n : ℕ). within 2 n 8191) (length-from (a .path .count) (a .b .now) (a .path .points)) ∙ sym (c .before .within .ensures) ∙ was-false _ (c .if1 .taken) in record { is = sym (wrong-count (a .converter .policy) (a .converter .d) p stopped (a .entry) ready h); fits = tt }
+checked k =
+    let a = k .before .before .args in
+    k .check-shape .ensures
+    ∙ ap (λ (n : ℕ). shapeChecks minPathPoints n maxPoints (a .path .layer) (a .path .datatype)) (sym (length-from (a .path .points .count) (a .b .now) (a .path .points .place)))
 
-returns-2 : tie.Need-returns-2
-unfolding pathAt
-returns-2 c = let a = c .before .before .before .before .before .args in let p = pathAt (a .b .now) (a .path) in let h = ap (λ (n : ℕ). within 2 n 8191) (length-from (a .path .count) (a .b .now) (a .path .points)) ∙ sym (c .before .before .before .within .ensures) ∙ was-true _ (c .before .before .if1 .left) in record { is = sym (right-count (a .converter .policy) (a .converter .d) p stopped (a .entry) ready false (leb (a .path .datatype) 255) h (lt-leb _ _ (c .if2 .taken)) refl); fits = tt }
+check-shape-requires : tie.Need-check-shape-requires
+check-shape-requires c κs = search needs
 
-returns-3 : tie.Need-returns-3
-unfolding pathAt
-returns-3 c = let a = c .before .before .before .before .before .before .before .args in let p = pathAt (a .b .now) (a .path) in let h = ap (λ (n : ℕ). within 2 n 8191) (length-from (a .path .count) (a .b .now) (a .path .points)) ∙ sym (c .before .before .before .before .before .within .ensures) ∙ was-true _ (c .before .before .before .before .if1 .left) in record { is = sym (right-count (a .converter .policy) (a .converter .d) p stopped (a .entry) ready true false h (le-leb _ _ (c .before .before .if2 .left)) (lt-leb _ _ (c .if3 .taken))); fits = tt }
+enum-known-refusal : tie.Need-enum-known-refusal
+enum-known-refusal c = search needs
+
+enum-told : tie.Need-enum-told
+enum-told c = search needs
 
 convert-lengths-requires : tie.Need-convert-lengths-requires
 convert-lengths-requires c κs = search needs
 
-returns-4 : tie.Need-returns-4
-unfolding pathAt
-returns-4 c =
-    let at-if2 = c .before .before .before in
-    let at-if1 = at-if2 .before .before in
-    let at-within = at-if1 .before in
-    let start = at-within .before .before in
-    let a = start .args in let p = pathAt (a .b .now) (a .path) in let h = ap (λ (n : ℕ). within 2 n 8191) (length-from (a .path .count) (a .b .now) (a .path .points)) ∙ sym (at-within .within .ensures) ∙ was-true _ (at-if1 .if1 .left) in let r = c .convert-lengths .ensures in record { is = r .is ∙ sym (right-count (a .converter .policy) (a .converter .d) p stopped (a .entry) ready true true h (le-leb _ _ (at-if2 .if2 .left)) (le-leb _ _ (c .before .if3 .left))); fits = r .fits }
+returns : tie.Need-returns
+returns c =
+    let at-check-shape = c .before .before .before in
+    let a = at-check-shape .before .before .args in
+    let g = c .before .refusal .given in
+    checks-stop (a .converter .policy) (a .converter .d) (pathAt (a .b .now) (a .path)) (a .entry) (g .0 .0) (ap checkOf (sym (g .1)) ∙ checked at-check-shape)
+
+returns-2 : tie.Need-returns-2
+returns-2 c =
+    let at-check-shape = c .before .before .before in
+    let a = at-check-shape .before .before .args in
+    let r = c .convert-lengths in
+    checks-pass (a .converter .policy) (a .converter .d) (pathAt (a .b .now) (a .path)) (a .entry) (r .result) (ap checkOf (sym (c .before .enum-told .given .1)) ∙ checked at-check-shape) (r .ensures)
 
 pub convert-front-spec : {M : Type 1} → statement M
 convert-front-spec =
     tie.close
-    (tie.spec within-requires returns returns-2 returns-3 convert-lengths-requires returns-4)
+    (tie.spec
+    check-shape-requires
+    enum-known-refusal
+    enum-told
+    convert-lengths-requires
+    returns
+    returns-2)

@@ -1,6 +1,7 @@
--- `put_extent` meets its contract. Assumes nothing.
+-- `path::put_extent` meets its contract. Assumes nothing.
 use mathlib.Core.Path.{_∙_}
 use mir.Syntax.{w32}
+use mir.Val.{SFits}
 use mir.ValLaws.{toZ-ofZ}
 use borrow.Author.Needs.{needs}
 use Rattle.path.proofs.LengthLaws.{extent-at}
@@ -18,16 +19,27 @@ put-opt-long-at-requires-3 c κs = search needs
 
 same-length : tie.Need-same-length
 same-length c =
-    let at-put-opt-long-at2 = c .before .before .before .before .before .before in
-    let at-put-opt-long-at = at-put-opt-long-at2 .before .before .before .before in
-    c .before .before .put-opt-long-at3 .ensures .long ∙ at-put-opt-long-at2 .put-opt-long-at2 .ensures .long ∙ at-put-opt-long-at .put-opt-long-at .ensures .long
+    let at-put-opt-long-at3 = c .before .before in
+    let at-put-opt-long-at2 = at-put-opt-long-at3 .before .before .before .before .before in
+    let at-put-opt-long-at = at-put-opt-long-at2 .before .before .before .before .before in
+    at-put-opt-long-at3 .put-opt-long-at3 .ensures .long ∙ at-put-opt-long-at2 .put-opt-long-at2 .ensures .long ∙ at-put-opt-long-at .put-opt-long-at .ensures .long
 
 returns : tie.Need-returns
 returns c =
-    let at-put-opt-long-at2 = c .before .before .before .before .before .before in
-    let at-put-opt-long-at = at-put-opt-long-at2 .before .before .before .before in
-    let start = at-put-opt-long-at .before .before .before in
-    let a = start .args in let f = start .fits in extent-at (a .wide) (a .begun) (a .ended) (toZ-ofZ w32 (a .width) (f .width)) (toZ-ofZ w32 (a .begin) (f .begin)) (toZ-ofZ w32 (a .end) (f .end)) (at-put-opt-long-at .put-opt-long-at .ensures) (at-put-opt-long-at2 .put-opt-long-at2 .ensures) (c .before .before .put-opt-long-at3 .ensures)
+    let at-put-opt-long-at3 = c .before .before in
+    let at-put-opt-long-at2 = at-put-opt-long-at3 .before .before .before .before .before in
+    let at-put-opt-long-at = at-put-opt-long-at2 .before .before .before .before .before in
+    let at-struct-told = at-put-opt-long-at .before in
+    let x = at-struct-told .before .before .before .args .extent in
+    let told = at-struct-told .struct-told .given in
+    let f1 : SFits w32 (x .width) = search needs in
+    let f2 : SFits w32 (x .begin) = search needs in
+    let end = told .1 .1 .1 .1 .1 .0 in
+    let f3 : SFits w32 (x .end) = search needs in
+    extent-at x (toZ-ofZ w32 (x .width) f1) (toZ-ofZ w32 (x .begin) f2) (toZ-ofZ w32 (x .end) f3)
+    (at-put-opt-long-at .put-opt-long-at .ensures)
+    (at-put-opt-long-at2 .put-opt-long-at2 .ensures)
+    (at-put-opt-long-at3 .put-opt-long-at3 .ensures)
 
 pub put-extent-spec : {M : Type 1} → statement M
 put-extent-spec =

@@ -20,6 +20,7 @@ use Rattle.records.specs.code.Bytes.{optionOf}
 use Rattle.steps.specs.code.Ready.{Ready, stopped, ready}
 use Rattle.cell.specs.Limits.{within, minPathPoints, maxPoints}
 use Rattle.cell.specs.Write.{isSome, layerAndType}
+use Rattle.path.specs.declared.Extent.{Extent}
 use Rattle.path.specs.declared.Length.{Length}
 use Rattle.path.specs.declared.Length.the-variants as L
 use Rattle.path.specs.declared.Lengths.{Lengths}
@@ -28,17 +29,17 @@ use Rattle.path.specs.declared.Lengths.the-variants as F
 -- ---- the steps
 
 -- the three lengths, each of which may be absent
-pub record Extent : Type 0 where
+pub record OptExtent : Type 0 where
   pub width : Option ℤ
   pub begin : Option ℤ
   pub end : Option ℤ
 
 -- of flags and values
-abbrev pub extent : Bool → ℤ → Bool → ℤ → Bool → ℤ → Extent
-extent wide width begun begin ended end = record { width = optionOf wide width; begin = optionOf begun begin; end = optionOf ended end }
+abbrev pub optExtent : Extent → OptExtent
+optExtent x = record { width = optionOf (x .wide) (x .width); begin = optionOf (x .begun) (x .begin); end = optionOf (x .ended) (x .end) }
 
 module _ (policy : GdsRoundingPolicy) (d : Float) where
-  unfoldable pub writeExtent : S.Path → Made Extent
+  unfoldable pub writeExtent : S.Path → Made OptExtent
   writeExtent e = do
     w ← writeLength policy d widthField (e .width)
     b ← writeLength policy d beginField (e .begin)
@@ -46,7 +47,7 @@ module _ (policy : GdsRoundingPolicy) (d : Float) where
     pure (record { width = w; begin = b; end = n })
 
   -- the steps of `writePath` before its points
-  unfoldable pub writeFront : S.Path → Made Extent
+  unfoldable pub writeFront : S.Path → Made OptExtent
   writeFront e = do
     need (within minPathPoints (length (e .points)) maxPoints) R.PointCount
     layerAndType (e .layer) (e .datatype)
@@ -58,9 +59,9 @@ abbrev pub lengthOf : Length → Ready (Option ℤ)
 lengthOf (L.Refused r) = stopped r
 lengthOf (L.At there value e) = ready (optionOf there value) e
 
-abbrev pub extentOf : Lengths → Ready Extent
+abbrev pub extentOf : Lengths → Ready OptExtent
 extentOf (F.Refused r) = stopped r
-extentOf (F.At wide width begun begin ended end e) = ready (extent wide width begun begin ended end) e
+extentOf (F.At x e) = ready (optExtent x) e
 
 -- A length is there if it is on the sheet, and brings at most one deviation more.
 abbrev pub LengthFits : Bool → ℕ → Length → Type 0
@@ -72,16 +73,16 @@ pub record GivesLength (on : Bool) (e : Entry) (m : Made (Option ℤ)) (r : Leng
   pub fits : LengthFits on (e .count) r
 
 -- the same of the three
-pub record Fits (p : S.Path) (n : ℕ) (wide begun ended : Bool) (e : Entry) : Type 0 where
-  pub wide-is : wide ≡ isSome (p .width)
-  pub begun-is : begun ≡ isSome (p .begin)
-  pub ended-is : ended ≡ isSome (p .end)
+pub record Fits (p : S.Path) (n : ℕ) (x : Extent) (e : Entry) : Type 0 where
+  pub wide-is : x .wide ≡ isSome (p .width)
+  pub begun-is : x .begun ≡ isSome (p .begin)
+  pub ended-is : x .ended ≡ isSome (p .end)
   pub grown : e .count ≤ n + 3
 
 abbrev pub ExtentFits : S.Path → ℕ → Lengths → Type 0
 ExtentFits p n (F.Refused r) = T true
-ExtentFits p n (F.At wide width begun begin ended end e) = Fits p n wide begun ended e
+ExtentFits p n (F.At x e) = Fits p n x e
 
-pub record GivesExtent (p : S.Path) (e : Entry) (m : Made Extent) (r : Lengths) : Type 0 where
+pub record GivesExtent (p : S.Path) (e : Entry) (m : Made OptExtent) (r : Lengths) : Type 0 where
   pub is : extentOf r ≡ run stopped e m ready
   pub fits : ExtentFits p (e .count) r
