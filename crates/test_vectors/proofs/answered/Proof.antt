@@ -90,8 +90,11 @@ part-same-start c = search needs
 
 part-same-end : tie.Need-part-same-end
 part-same-end c =
-    let h = stored-end (c .before .before .before .before .before .before .before .before .before .before .args .cases .now) (c .before .before .before .before .before .before .before .before .before .before .args .at) (c .before .before .before .before .before .before .before .before .u32-at .result) (c .before .before .before .before .before .before .before .u32-at2 .result) (c .before .before .before .before .before .before .before .before .before .before .pre) (c .before .before .before .before .before .before .before .before .u32-at .ensures) (c .before .before .before .before .before .before .before .u32-at2 .ensures) in
-    search needs
+    let at-u32-at2 = c .before .before .before .before .before .before .before in
+    let at-u32-at = at-u32-at2 .before in
+    let start = at-u32-at .before .before in
+    let h = stored-end (start .args .cases .now) (start .args .at) (at-u32-at .u32-at .result) (at-u32-at2 .u32-at2 .result) (start .pre) (at-u32-at .u32-at .ensures) (at-u32-at2 .u32-at2 .ensures) in
+    omega arith
 
 same-requires : tie.Need-same-requires
 same-requires c κs = search needs

@@ -65,8 +65,9 @@ put-bytes-at-requires c κs =
 
 mul-report : tie.Need-mul-report
 mul-report c =
-    let h = writes-room (c .before .before .before .before .before .before .before .before .before .before .before .before .before .before .before .write-cell .ensures) (c .before .before .before .before .before .before .before .before .before .before .before .length .given .1) in
-    search needs
+    let at-length = c .before .before .before .before .before .before .before .before .before .before .before in
+    let h = writes-room (at-length .before .before .before .before .write-cell .ensures) (at-length .length .given .1) in
+    omega arith
 
 array-share-prefix-report : tie.Need-array-share-prefix-report
 array-share-prefix-report c =
