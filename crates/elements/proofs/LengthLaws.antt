@@ -28,7 +28,7 @@ use Rattle.transform.specs.code.Strans.{transformLength}
 use Rattle.transform.proofs.StransLaws.{length-small}
 use Rattle.polygon_node.specs.code.Shape.{polygonBytes, nodeBytes, shapeLength}
 use Rattle.polygon_node.proofs.ShapeLaws.{shape-length}
-use Rattle.path.specs.code.Length.{pathBytes, pathLength, headLength}
+use Rattle.path.specs.code.Length.{pathBytes, pathLength, flagsLength}
 use Rattle.path.proofs.PathLaws.{path-length}
 use Rattle.text.specs.code.Text.{textBytes, textLength}
 use Rattle.text.proofs.TextLaws.{text-length}
@@ -42,7 +42,7 @@ use Rattle.elements.specs.code.Block.{bodyBytes, bodyLength}
 
 module _ (policy : GdsRoundingPolicy) (d : Float) (b : List ℕ) where
   -- a polygon is a shape whose ends meet
-  polygon-length : (s : ShapePlaces) (w : D.Shape) → Yields (writePolygon policy d (shapeAt b s)) w → length (polygonBytes w) ≡ shapeLength (s .count)
+  polygon-length : (s : ShapePlaces) (w : D.Shape) → Yields (writePolygon policy d (shapeAt b s)) w → length (polygonBytes w) ≡ shapeLength (s .points .count)
   unfolding writePolygon
   polygon-length s w y =
       let k = steps y in
@@ -50,7 +50,7 @@ module _ (policy : GdsRoundingPolicy) (d : Float) (b : List ℕ) where
       ap (λ (v : D.Shape). length (polygonBytes v)) (sym e)
       ∙ sym (shape-length policy d minPolygonPoints maxPoints b s (k .value) (k .first .log) BOUNDARY DATATYPE (k .first .is))
 
-  node-length : (s : ShapePlaces) (w : D.Shape) → Yields (writeNode policy d (shapeAt b s)) w → length (nodeBytes w) ≡ shapeLength (s .count)
+  node-length : (s : ShapePlaces) (w : D.Shape) → Yields (writeNode policy d (shapeAt b s)) w → length (nodeBytes w) ≡ shapeLength (s .points .count)
   unfolding writeNode
   node-length s w y = sym (shape-length policy d minNodePoints maxNodePoints b s w (y .log) NODE NODETYPE (y .is))
 
@@ -80,7 +80,7 @@ rest-short : (t : Bool) → cond t singleRest arrayRest ≤ 36
 rest-short true = omega arith
 rest-short false = omega arith
 
-head-short : (typed wide begun ended : Bool) → headLength typed wide begun ended ≤ 50
+head-short : (typed wide begun ended : Bool) → flagsLength typed wide begun ended ≤ 50
 head-short typed wide begun ended =
     let a = flag-short typed 6 in
     let b = flag-short wide 8 in
@@ -97,7 +97,7 @@ unfolding bodyLength pathLength pathAt textLength referenceLength
 body-short b (B.Polygon s) i = let h = i .points-in in omega arith
 body-short b (B.Path s) i =
     let h = i .points-in in
-    let l = length-from (s .count) b (s .points) in
+    let l = length-from (s .points .count) b (s .points .place) in
     let p = pathAt b s in
     let k = head-short (isSome (p .pathType)) (isSome (p .width)) (isSome (p .begin)) (isSome (p .end)) in
     omega arith

@@ -36,10 +36,10 @@ use Rattle.elements.proofs.SplitLaws.{element-split}
 -- what a kind's function asks, in the arm of that kind
 pub record Room (b : List ℕ) (s : BodyPlaces) (n : ℕ) : Type 0 where
   pub inside : BodyIn b s
-  pub fits : 0 + bodyLength b s ≤ n
+  pub fits : bodyLength b s ≤ n
 
 pub room-of : {b : List ℕ} {s t : BodyPlaces} {n : ℕ} → s ≡ t → BodyIn b s → bodyLength b s ≤ n → Room b t n
-room-of {b} {s} {t} {n} h i l = subst (λ (x : BodyPlaces). Room b x n) h (record { inside = i; fits = omega arith })
+room-of {b} {s} {t} {n} h i l = subst (λ (x : BodyPlaces). Room b x n) h (record { inside = i; fits = l })
 
 -- ---- the element
 

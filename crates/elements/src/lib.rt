@@ -10,35 +10,25 @@ use steps::Written;
 ghost use mathlib.Core.Path.{_≡_};
 ghost use Prim.Native.Nat.{_≤_};
 ghost use lib.ListN.{length};
+ghost use Rattle.conversion.specs.code.Fold.{Spare};
 ghost use Rattle.sheet.specs.Element.{kindOf, elementOf};
 ghost use Rattle.stream.specs.Records.{elementBytes};
 ghost use Rattle.cell.specs.Limits.{maxSheetLength};
 ghost use Rattle.cell.specs.Write.{writeBody, writeElement};
 ghost use Rattle.forms.specs.code.Forms.{bodyAt, propertiesAt, BodyIn, ElementIn};
-ghost use Rattle.steps.specs.code.Steps.{Measures, Succeeds, Writes};
+ghost use Rattle.steps.specs.code.Steps.{maxDeviations, Measures, Succeeds, Writes};
 ghost use Rattle.elements.specs.code.Block.{bodyBytes, bodyLength, measuredBlock, Short, Fits, WritesBlock};
-
-// The kinds of the report's entries.
-const POLYGON: u8 = 1;
-
-const PATH: u8 = 2;
-
-const TEXT: u8 = 3;
-
-const NODE: u8 = 4;
-
-const REFERENCE: u8 = 5;
 
 // The kind of an element in its report entry.
 fn kind_of(b: &[u8], body: BodyPlaces) -> u8
     ensures { λ r. ⌜ r ≡ kindOf (bodyAt (now (b .entry)) body) ⌝ }
 {
     match body {
-        BodyPlaces::Polygon { shape: _ } => POLYGON,
-        BodyPlaces::Path { path: _ } => PATH,
-        BodyPlaces::Text { text: _ } => TEXT,
-        BodyPlaces::Node { shape: _ } => NODE,
-        BodyPlaces::Reference { reference: _ } => REFERENCE,
+        BodyPlaces::Polygon { shape: _ } => forms::POLYGON,
+        BodyPlaces::Path { path: _ } => forms::PATH,
+        BodyPlaces::Text { text: _ } => forms::TEXT,
+        BodyPlaces::Node { shape: _ } => forms::NODE,
+        BodyPlaces::Reference { reference: _ } => forms::REFERENCE,
     }
 }
 
@@ -52,7 +42,7 @@ fn measure_body(
     entry: Entry,
 ) -> Measured
     requires { ⌜ BodyIn (now b) body ⌝ }
-    requires { ⌜ entry .count ≤ 13 ⌝ }
+    requires { ⌜ Spare maxDeviations entry ⌝ }
     ensures { λ r. ⌜ Measures bodyBytes entry (writeBody (converter .policy) (converter .d) (bodyAt (now (b .entry)) body)) r ⌝ }
 {
     match body {
@@ -79,7 +69,7 @@ fn measure_parts(
 ) -> Measured
     requires { ⌜ length (now b) ≤ maxSheetLength ⌝ }
     requires { ⌜ ElementIn (now b) body properties ⌝ }
-    requires { ⌜ entry .count ≤ 13 ⌝ }
+    requires { ⌜ Spare maxDeviations entry ⌝ }
     ensures { λ r. ⌜ Measures elementBytes entry (writeElement (converter .policy) (converter .d) (record { body = bodyAt (now (b .entry)) body; properties = propertiesAt (now (b .entry)) properties })) r ⌝ }
     ensures { λ r. ⌜ Short (length (now (b .entry))) r ⌝ }
 {
@@ -133,7 +123,7 @@ fn put_body(
 ) -> Written
     requires { ⌜ BodyIn (now b) body ⌝ }
     requires { ⌜ Succeeds (writeBody (converter .policy) (converter .d) (bodyAt (now b) body)) ⌝ }
-    requires { ⌜ entry .count ≤ 13 ⌝ }
+    requires { ⌜ Spare maxDeviations entry ⌝ }
     requires { ⌜ bodyLength (now b) body ≤ length (now part) ⌝ }
     ensures { λ r. ⌜ Writes bodyBytes entry (writeBody (converter .policy) (converter .d) (bodyAt (now (b .entry)) body)) 0 (now (part .entry)) (now (part .exit)) r ⌝ }
 {
@@ -143,19 +133,11 @@ fn put_body(
             b,
             shape,
             part,
-            0,
             entry,
         ),
-        BodyPlaces::Path { path } => path::put_path(converter, b, path, part, 0, entry),
+        BodyPlaces::Path { path } => path::put_path(converter, b, path, part, entry),
         BodyPlaces::Text { text } => text::put_text(converter, b, text, part, entry),
-        BodyPlaces::Node { shape: node } => polygon_node::put_node(
-            converter,
-            b,
-            node,
-            part,
-            0,
-            entry,
-        ),
+        BodyPlaces::Node { shape: node } => polygon_node::put_node(converter, b, node, part, entry),
         BodyPlaces::Reference { reference } => reference::put_reference(
             converter,
             b,

@@ -8,10 +8,10 @@ use lib.ListN.{length, length-append}
 use Rattle.refusal.specs.declared.Refusal.{Refusal}
 use Rattle.conversion.specs.declared.Deviation.{Deviation}
 use Rattle.conversion.specs.declared.Entry.{Entry}
-use Rattle.conversion.specs.Made.{Made, Done, refused, made, pure, need, _>>=_, _>>_}
+use Rattle.conversion.specs.Made.{Made, refused, made, pure, need, _>>=_, _>>_}
 use Rattle.conversion.specs.code.Fold.{notedAll, run}
 use Rattle.conversion.proofs.FoldLaws.{noted-append, run-bind, run-map, run-same}
-use Rattle.conversion.proofs.MadeLaws.{Yields, need-on, need-off, refused-then}
+use Rattle.conversion.proofs.MadeLaws.{Yields, need-on, need-off}
 use Rattle.big_endian.specs.Buffer.{splice, WroteAt}
 use Rattle.big_endian.proofs.BufferLaws.{same-bytes, then-at}
 use Rattle.steps.specs.declared.Measured.{Measured}
@@ -90,14 +90,6 @@ never-refused s h = let g = s .makes in let z : _≡_ {A = ℕ} 0 1 = cc in absu
 pub past-check : {A : Type 0} (t : Bool) (x : Refusal) (m : Made A) → Succeeds (need t x >> m) → need t x >> m ≡ m
 past-check true x m s = need-on true x m refl
 past-check false x m s = never-refused s (need-off false x m refl)
-
--- two checks that stand as one step
-pub past-checks : {A : Type 0} (t : Bool) (x : Refusal) (u : Bool) (y : Refusal) (m : Made A) → Succeeds ((need t x >> need u y) >> m) → (need t x >> need u y) >> m ≡ m
-unfolding _>>_
-past-checks true x u y m s =
-    let h = ap (λ (n : Made Done). n >> m) (need-on true x (need u y) refl) in
-    h ∙ past-check u y m (subst Succeeds h s)
-past-checks false x u y m s = never-refused s (ap (λ (n : Made Done). n >> m) (need-off false x (need u y) refl) ∙ refused-then x (λ _. m))
 
 -- the step in other words
 pub same-step : {A : Type 0} {bytes : A → List ℕ} {e : Entry} {m n : Made A} {at : ℕ} {before after : List ℕ} {r : Written} → m ≡ n → Writes bytes e m at before after r → Writes bytes e n at before after r

@@ -12,8 +12,7 @@ enum-known-body c = search needs
 measure-polygon-requires : tie.Need-measure-polygon-requires
 measure-polygon-requires c κs =
     let s = c .before .before .before .before in
-    let n = s .pre .1 in
-    (body-in-as (s .args .b .now) (c .before .body .given .1) (s .pre .0), omega arith)
+    (body-in-as (s .args .b .now) (c .before .body .given .1) (s .pre .0), s .pre .1)
 
 enum-known-body-2 : tie.Need-enum-known-body-2
 enum-known-body-2 c = search needs
@@ -29,7 +28,7 @@ enum-known-body-3 c = search needs
 measure-text-requires : tie.Need-measure-text-requires
 measure-text-requires c κs =
     let s = c .before .before .before .before in
-    let n = s .pre .1 in
+    let spare = s .pre .1 in
     (body-in-as (s .args .b .now) (c .before .body3 .given .1) (s .pre .0), omega arith)
 
 enum-known-body-4 : tie.Need-enum-known-body-4
@@ -38,8 +37,7 @@ enum-known-body-4 c = search needs
 measure-node-requires : tie.Need-measure-node-requires
 measure-node-requires c κs =
     let s = c .before .before .before .before in
-    let n = s .pre .1 in
-    (body-in-as (s .args .b .now) (c .before .body4 .given .1) (s .pre .0), omega arith)
+    (body-in-as (s .args .b .now) (c .before .body4 .given .1) (s .pre .0), s .pre .1)
 
 enum-known-body-5 : tie.Need-enum-known-body-5
 enum-known-body-5 c = search needs
@@ -47,7 +45,7 @@ enum-known-body-5 c = search needs
 measure-reference-requires : tie.Need-measure-reference-requires
 measure-reference-requires c κs =
     let s = c .before .before .before .before in
-    let n = s .pre .1 in
+    let spare = s .pre .1 in
     (body-in-as (s .args .b .now) (c .before .body5 .given .1) (s .pre .0), omega arith)
 
 returns : tie.Need-returns

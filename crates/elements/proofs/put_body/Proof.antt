@@ -14,9 +14,6 @@ use Rattle.elements.proofs.put_body.Tie as tie
 room : (k : tie.Start) {t : BodyPlaces} → k .args .body ≡ t → Room (k .args .b .now) t (length (k .args .part .now))
 room k h = room-of h (k .pre .0) (k .pre .1 .1 .1)
 
-few : (k : tie.Start) → k .args .entry .count ≤ 16
-few k = let n = k .pre .1 .1 .0 in omega arith
-
 enum-known-body : tie.Need-enum-known-body
 enum-known-body c = search needs
 
@@ -27,7 +24,7 @@ put-polygon-requires c κs =
     let a = s .args in
     let g = c .before .before .body .given in
     let r = room s (g .1) in
-    (r .inside, (polygon-as (a .converter .policy) (a .converter .d) (a .b .now) (g .0 .0) (g .1) .accepts (s .pre .1 .0), (r .fits, few s)))
+    (r .inside, (polygon-as (a .converter .policy) (a .converter .d) (a .b .now) (g .0 .0) (g .1) .accepts (s .pre .1 .0), (r .fits, s .pre .1 .1 .0)))
 
 enum-known-body-2 : tie.Need-enum-known-body-2
 enum-known-body-2 c = search needs
@@ -39,7 +36,7 @@ put-path-requires c κs =
     let a = s .args in
     let g = c .before .before .body2 .given in
     let r = room s (g .1) in
-    (r .inside, (path-as (a .converter .policy) (a .converter .d) (a .b .now) (g .0 .0) (g .1) .accepts (s .pre .1 .0), (s .pre .1 .1 .0, r .fits)))
+    (r .inside, (path-as (a .converter .policy) (a .converter .d) (a .b .now) (g .0 .0) (g .1) .accepts (s .pre .1 .0), (r .fits, s .pre .1 .1 .0)))
 
 enum-known-body-3 : tie.Need-enum-known-body-3
 enum-known-body-3 c = search needs
@@ -51,7 +48,9 @@ put-text-requires c κs =
     let a = s .args in
     let g = c .before .before .body3 .given in
     let r = room s (g .1) in
-    (r .inside, (text-as (a .converter .policy) (a .converter .d) (a .b .now) (g .0 .0) (g .1) .accepts (s .pre .1 .0), (omega (arith, few s), omega (arith, r .fits))))
+    let fits = r .fits in
+    let spare = s .pre .1 .1 .0 in
+    (r .inside, (text-as (a .converter .policy) (a .converter .d) (a .b .now) (g .0 .0) (g .1) .accepts (s .pre .1 .0), (omega arith, omega arith)))
 
 enum-known-body-4 : tie.Need-enum-known-body-4
 enum-known-body-4 c = search needs
@@ -63,7 +62,7 @@ put-node-requires c κs =
     let a = s .args in
     let g = c .before .before .body4 .given in
     let r = room s (g .1) in
-    (r .inside, (node-as (a .converter .policy) (a .converter .d) (a .b .now) (g .0 .0) (g .1) .accepts (s .pre .1 .0), (r .fits, few s)))
+    (r .inside, (node-as (a .converter .policy) (a .converter .d) (a .b .now) (g .0 .0) (g .1) .accepts (s .pre .1 .0), (r .fits, s .pre .1 .1 .0)))
 
 enum-known-body-5 : tie.Need-enum-known-body-5
 enum-known-body-5 c = search needs
@@ -75,7 +74,9 @@ put-reference-requires c κs =
     let a = s .args in
     let g = c .before .before .body5 .given in
     let r = room s (g .1) in
-    (r .inside, (reference-as (a .converter .policy) (a .converter .d) (a .b .now) (g .0 .0) (g .1) .accepts (s .pre .1 .0), (omega (arith, few s), omega (arith, r .fits))))
+    let fits = r .fits in
+    let spare = s .pre .1 .1 .0 in
+    (r .inside, (reference-as (a .converter .policy) (a .converter .d) (a .b .now) (g .0 .0) (g .1) .accepts (s .pre .1 .0), (omega arith, omega arith)))
 
 same-length : tie.Need-same-length
 same-length c = search needs

@@ -35,10 +35,10 @@ bodyBytes w = streamBytes (bodyRecords w [])
 
 -- their length, by the block alone
 unfoldable pub bodyLength : List ℕ → BodyPlaces → ℕ
-bodyLength b (B.Polygon s) = shapeLength (s .count)
+bodyLength b (B.Polygon s) = shapeLength (s .points .count)
 bodyLength b (B.Path s) = pathLength (pathAt b s)
 bodyLength b (B.Text s) = textLength b s
-bodyLength b (B.Node s) = shapeLength (s .count)
+bodyLength b (B.Node s) = shapeLength (s .points .count)
 bodyLength b (B.Reference s) = referenceLength b s
 
 -- ---- the element of index i that a block holds: "form first", then its own refusals
