@@ -14,7 +14,7 @@ measured-once m n = m .answer ∙ sym (n .answer)
 module _ {policy : ℕ} {d : Float} {sheet out report out₁ report₁ : List ℕ} {v : Values} (w : WritesCell policy d sheet out report out₁ report₁ v) where
   -- "the same cell into the same stream, byte for byte": lent the same buffers, two writers leave the same in them
   pub written-once : {out₂ report₂ : List ℕ} {u : Values} → WritesCell policy d sheet out report out₂ report₂ u → (v ≡ u) × (out₁ ≡ out₂) × (report₁ ≡ report₂)
-  written-once x = (w .answer ∙ sym (x .answer), (w .output ∙ sym (x .output), w .entries ∙ sym (x .entries)))
+  written-once x = (w .answer ∙ sym (x .answer), w .output ∙ sym (x .output), w .entries ∙ sym (x .entries))
 
   -- demand 3, of what is in the output
   pub accepted-draws : v .number ≡ 0 → Draws policy d sheet (take (v .length) out₁)
