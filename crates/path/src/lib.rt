@@ -206,7 +206,7 @@ pub fn measure_path(
         Lengths::Refused { refusal } => Measured::Refused { refusal },
         Lengths::At { extent, entry: e } => {
             let points = path.points;
-            let walked = points::measure_points(converter, b, points, e);
+            let walked = points::measure_points(converter, b, points.place, points.count, e);
             let head = head_length(has_path_type(path.pathtype), extent);
             points::with_length(walked, head + records::XY_POINT * points.count)
         }
@@ -260,7 +260,15 @@ pub fn put_path(
         Lengths::Refused { refusal: _ } => Written { to: 0, entry },
         Lengths::At { extent, entry: e } => {
             let to = put_head(out, path, extent);
-            points::put_points(converter, b, path.points, out, to, e)
+            let front = Written { to, entry: e };
+            points::put_points(
+                converter,
+                b,
+                path.points.place,
+                path.points.count,
+                out,
+                front,
+            )
         }
     }
 }

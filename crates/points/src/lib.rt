@@ -182,23 +182,25 @@ fn measure_rest(
     }
 }
 
-// All points: the first refusal, or the ends and the entry.
+// All points: the first refusal, or the ends and the entry. Place and number come apart, so that they stay in registers.
 pub fn measure_points(
     converter: CoordinateConverter,
     b: &[u8],
-    points: PointsPlaces,
+    place: usize,
+    count: usize,
     entry: Entry,
 ) -> Walked
-    requires { ⌜ PointsIn (now b) points ⌝ }
-    requires { ⌜ 1 ≤ points .count ⌝ }
-    requires { ⌜ points .count ≤ maxPoints ⌝ }
-    requires { ⌜ Spare (2 * points .count) entry ⌝ }
-    ensures { λ r. ⌜ r ≡ run W.Refused entry (writePoints (converter .policy) (converter .d) 0 (pointsAt (now (b .entry)) points)) walked ⌝ }
+    requires { ⌜ place + pointLength * count ≤ length (now b) ⌝ }
+    requires { ⌜ 1 ≤ count ⌝ }
+    requires { ⌜ count ≤ maxPoints ⌝ }
+    requires { ⌜ Spare (2 * count) entry ⌝ }
+    ensures { λ r. ⌜ r ≡ run W.Refused entry (writePoints (converter .policy) (converter .d) 0 (pointsFrom count (now (b .entry)) place)) walked ⌝ }
 {
+    let points = PointsPlaces { count, place };
     if all_pass(converter.d, b, points) {
         return integer_ends(b, points, entry);
     }
-    match coordinate::convert_point(converter, b, points.place, POINT_FIELD, 0, entry) {
+    match coordinate::convert_point(converter, b, place, POINT_FIELD, 0, entry) {
         Pointed::Refused { refusal } => Walked::Refused { refusal },
         Pointed::At { x, y, entry: e } => measure_rest(converter, b, points, x, y, e),
     }
@@ -267,22 +269,25 @@ fn put_converted(
     Written { to, entry: e }
 }
 
-// All points, eight bytes each, from a place of the output on.
+// All points, eight bytes each, after what is written already.
 pub fn put_points(
     converter: CoordinateConverter,
     b: &[u8],
-    points: PointsPlaces,
+    place: usize,
+    count: usize,
     out: &mut [u8],
-    start: usize,
-    entry: Entry,
+    front: Written,
 ) -> Written
-    requires { ⌜ PointsIn (now b) points ⌝ }
-    requires { ⌜ points .count ≤ maxPoints ⌝ }
-    requires { ⌜ Succeeds (writePoints (converter .policy) (converter .d) 0 (pointsAt (now b) points)) ⌝ }
-    requires { ⌜ start + xyPointLength * points .count ≤ length (now out) ⌝ }
-    requires { ⌜ Spare (2 * points .count) entry ⌝ }
-    ensures { λ r. ⌜ Writes pointsBytes entry (writePoints (converter .policy) (converter .d) 0 (pointsAt (now (b .entry)) points)) start (now (out .entry)) (now (out .exit)) r ⌝ }
+    requires { ⌜ place + pointLength * count ≤ length (now b) ⌝ }
+    requires { ⌜ count ≤ maxPoints ⌝ }
+    requires { ⌜ Succeeds (writePoints (converter .policy) (converter .d) 0 (pointsFrom count (now b) place)) ⌝ }
+    requires { ⌜ front .to + xyPointLength * count ≤ length (now out) ⌝ }
+    requires { ⌜ Spare (2 * count) (front .entry) ⌝ }
+    ensures { λ r. ⌜ Writes pointsBytes (front .entry) (writePoints (converter .policy) (converter .d) 0 (pointsFrom count (now (b .entry)) place)) (front .to) (now (out .entry)) (now (out .exit)) r ⌝ }
 {
+    let points = PointsPlaces { count, place };
+    let start = front.to;
+    let entry = front.entry;
     if all_pass(converter.d, b, points) {
         return Written {
             to: put_integers(b, points, out, start),

@@ -50,7 +50,7 @@ fn measure_shape(
     let points = places.points;
     match validation::check_shape(least, points.count, most, places.layer, places.datatype) {
         Check::Refused { refusal } => Walked::Refused { refusal },
-        Check::Passed => points::measure_points(converter, b, points, entry),
+        Check::Passed => points::measure_points(converter, b, points.place, points.count, entry),
     }
 }
 
@@ -148,7 +148,15 @@ pub fn put_polygon(
     ensures { λ r. ⌜ Writes polygonBytes entry (writePolygon (converter .policy) (converter .d) (shapeAt (now (b .entry)) places)) 0 (now (out .entry)) (now (out .exit)) r ⌝ }
 {
     let to = put_shape_head(out, records::BOUNDARY, records::DATATYPE, places);
-    points::put_points(converter, b, places.points, out, to, entry)
+    let front = Written { to, entry };
+    points::put_points(
+        converter,
+        b,
+        places.points.place,
+        places.points.count,
+        out,
+        front,
+    )
 }
 
 pub fn put_node(
@@ -165,5 +173,13 @@ pub fn put_node(
     ensures { λ r. ⌜ Writes nodeBytes entry (writeNode (converter .policy) (converter .d) (shapeAt (now (b .entry)) places)) 0 (now (out .entry)) (now (out .exit)) r ⌝ }
 {
     let to = put_shape_head(out, records::NODE, records::NODETYPE, places);
-    points::put_points(converter, b, places.points, out, to, entry)
+    let front = Written { to, entry };
+    points::put_points(
+        converter,
+        b,
+        places.points.place,
+        places.points.count,
+        out,
+        front,
+    )
 }

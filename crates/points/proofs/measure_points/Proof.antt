@@ -28,7 +28,7 @@ returns : tie.Need-returns
 returns c =
     let a = c .before .before .before .before .args in
     let h = c .before .before .all-pass .ensures (c .before .if1 .taken) in
-    c .integer-ends .ensures ∙ sym (pass-measured (a .converter .policy) (a .converter .d) (a .b .now) (a .points .count) (a .points .place) h (a .entry))
+    c .integer-ends .ensures ∙ sym (pass-measured (a .converter .policy) (a .converter .d) (a .b .now) (a .count) (a .place) h (a .entry))
 
 convert-point-requires : tie.Need-convert-point-requires
 convert-point-requires c κs = search needs
@@ -53,7 +53,7 @@ returns-2 c =
     let p = c .before .before .before .before .before .before .before .pre in
     let r = c .before .before .before .convert-point in
     let g = c .before .refusal .given in
-    sym (whole-first W.Refused (a .converter .policy) (a .converter .d) (a .points .count) 0 (a .b .now) (a .points .place) (a .entry) walked ∙ go-stop W.Refused (a .converter .policy) (a .converter .d) (a .points .count) 0 (a .b .now) (a .points .place) (a .entry) walked (p .1 .0) (r .result) (r .ensures) (g .0 .0) (g .1))
+    sym (whole-first W.Refused (a .converter .policy) (a .converter .d) (a .count) 0 (a .b .now) (a .place) (a .entry) walked ∙ go-stop W.Refused (a .converter .policy) (a .converter .d) (a .count) 0 (a .b .now) (a .place) (a .entry) walked (p .1 .0) (r .result) (r .ensures) (g .0 .0) (g .1))
 
 returns-3 : tie.Need-returns-3
 unfolding walked
@@ -70,8 +70,8 @@ returns-3 c =
     let fx : SFits w32 x = search needs in
     let fy : SFits w32 y = search needs in
     c .measure-rest .ensures
-    ∙ ap (λ (q : Point ℤ). run W.Refused e (writePoints (a .converter .policy) (a .converter .d) 1 (pointsFrom (a .points .count - 1) (a .b .now) (a .points .place + 34))) (through q q)) (point-back x y fx fy)
-    ∙ sym (whole-first W.Refused (a .converter .policy) (a .converter .d) (a .points .count) 0 (a .b .now) (a .points .place) (a .entry) walked ∙ go-on W.Refused (a .converter .policy) (a .converter .d) (a .points .count) 0 (a .b .now) (a .points .place) (a .entry) walked (p .1 .0) (r .result) (r .ensures) x y e (g .1))
+    ∙ ap (λ (q : Point ℤ). run W.Refused e (writePoints (a .converter .policy) (a .converter .d) 1 (pointsFrom (a .count - 1) (a .b .now) (a .place + 34))) (through q q)) (point-back x y fx fy)
+    ∙ sym (whole-first W.Refused (a .converter .policy) (a .converter .d) (a .count) 0 (a .b .now) (a .place) (a .entry) walked ∙ go-on W.Refused (a .converter .policy) (a .converter .d) (a .count) 0 (a .b .now) (a .place) (a .entry) walked (p .1 .0) (r .result) (r .ensures) x y e (g .1))
 
 pub measure-points-spec : {M : Type 1} → statement M
 measure-points-spec =

@@ -17,9 +17,9 @@ returns : tie.Need-returns
 returns c =
     let at-if1 = c .before .before .before .before in
     let at-all-pass = at-if1 .before in
-    let start = at-all-pass .before .before .before in
+    let start = at-all-pass .before .before .before .before in
     let a = start .args in
-    pass-put (a .converter .policy) (a .converter .d) (a .b .now) (a .points .count) (a .points .place) (at-all-pass .all-pass .ensures (at-if1 .if1 .taken)) (a .entry) (c .before .before .put-integers .ensures)
+    pass-put (a .converter .policy) (a .converter .d) (a .b .now) (a .count) (a .place) (at-all-pass .all-pass .ensures (at-if1 .if1 .taken)) (a .front .entry) (c .before .before .put-integers .ensures)
 
 put-converted-requires : tie.Need-put-converted-requires
 put-converted-requires c κs = search needs
