@@ -14,7 +14,7 @@ ghost use Rattle.binary64.specs.Step.{orderedBits, oneStep};
 
 // A pattern is the sign, 11 bits of the exponent's field, and 52 binary digits.
 // The sign's weight.
-const SIGN: u64 = 0x8000_0000_0000_0000;
+pub const SIGN: u64 = 0x8000_0000_0000_0000;
 // Every bit of a pattern: what flips each one when it is taken from this.
 const EVERY_BIT: u64 = 0xffff_ffff_ffff_ffff;
 // The field's weight, which is that of the leading digit, the one that a pattern leaves out.

@@ -20,6 +20,7 @@ ghost use Rattle.big_endian.specs.Buffer.{WroteAt};
 ghost use Rattle.conversion.specs.Entry.{takes, placeBytes, entryBytes, entryLength};
 ghost use Rattle.conversion.specs.code.Fold.{blankEntry, placeLength, noted, Spare};
 use binary64::Direction;
+use binary64::SIGN;
 use refusal::Refusal;
 use units::Unit;
 
@@ -70,9 +71,6 @@ const GREATEST: i64 = 2147483647;
 
 // From this power of two on, in units of 2 ^ -1074, a double is a whole number of 2 ^ 52 or more.
 const WHOLE: u64 = 1074;
-
-// The weight of the sign in the bits of a double.
-const SIGN: u64 = 0x8000_0000_0000_0000;
 
 // The policy of a caller who has passed its first checks, or the first that failed.
 pub enum CallerPolicy {

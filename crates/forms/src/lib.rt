@@ -33,7 +33,7 @@ pub const COORDINATE: usize = 17;
 pub const POINT: usize = 34;
 
 // The bytes of a string's length, of a property's attribute and of a count.
-const NUMBER: usize = 2;
+pub const NUMBER: usize = 2;
 
 // The kind byte of an element, which is the kind in its report entry too.
 pub const POLYGON: u8 = 1;

@@ -1,6 +1,7 @@
 // The caller's first checks; points, layer and type; names and stamps (write/validation.rs, timestamp.rs).
 use conversion::CallerPolicy;
 use conversion::GdsRoundingPolicy;
+use forms::NUMBER;
 use refusal::Refusal;
 ghost use mathlib.Core.Path.{_≡_};
 ghost use Prim.Native.Nat.{_+_, _*_, _≤_};
@@ -35,8 +36,6 @@ const MAX_YEAR: usize = 9999;
 const STAMP_NUMBERS: usize = 12;
 
 const SECOND_STAMP: usize = 6;
-
-const NUMBER: usize = 2;
 
 // A caller's first checks: a refusal, or the policy.
 pub enum Called {
