@@ -6,8 +6,9 @@ ghost use Prim.Native.Nat.{_+_, _≤_};
 ghost use lib.ListN.{length};
 ghost use Rattle.big_endian.specs.Big.{bytesOf};
 ghost use Rattle.stream.specs.Records.{emptyRecord, wordRecord, longRecord, realRecord, stringRecord, colrowRecord};
+ghost use Rattle.stream.specs.Library.{unitsRecord};
 ghost use Rattle.stream.specs.Strings.{padded};
-ghost use Rattle.records.specs.code.Bytes.{recordHead, wordRecordLength, longRecordLength, realRecordLength, stringRecordLength, maxStringData, stampsData, stampsRecordLength, headBytes, sized, stamped, Placed, Recorded, optBytes, optionOf};
+ghost use Rattle.records.specs.code.Bytes.{recordHead, wordRecordLength, longRecordLength, realRecordLength, unitsRecordLength, stringRecordLength, maxStringData, stampsData, stampsRecordLength, headBytes, sized, stamped, Placed, Recorded, optBytes, optionOf};
 
 // The data types of the manual.
 pub const NO_DATA: u8 = 0;
@@ -23,6 +24,16 @@ pub const EIGHT_BYTE_REAL: u8 = 5;
 pub const ASCII_STRING: u8 = 6;
 
 // The record codes of the manual.
+pub const HEADER: u8 = 0x00;
+
+pub const BGNLIB: u8 = 0x01;
+
+pub const LIBNAME: u8 = 0x02;
+
+pub const UNITS: u8 = 0x03;
+
+pub const ENDLIB: u8 = 0x04;
+
 pub const BGNSTR: u8 = 0x05;
 
 pub const STRNAME: u8 = 0x06;
@@ -140,6 +151,16 @@ pub fn put_real_at(out: &mut [u8], at: usize, code: u8, pattern: u64) -> usize
 {
     let a = put_head_at(out, at, 12, code, EIGHT_BYTE_REAL);
     big_endian::put_u64_at(out, a, pattern)
+}
+
+// UNITS, from the patterns of its two reals.
+pub fn put_units_at(out: &mut [u8], at: usize, user: u64, database: u64) -> usize
+    requires { ⌜ at + unitsRecordLength ≤ length (now out) ⌝ }
+    ensures { λ r. ⌜ Recorded (unitsRecord (bytesOf 8 user) (bytesOf 8 database)) unitsRecordLength (now (out .entry)) (now (out .exit)) at r ⌝ }
+{
+    let a = put_head_at(out, at, 20, UNITS, EIGHT_BYTE_REAL);
+    let b = big_endian::put_u64_at(out, a, user);
+    big_endian::put_u64_at(out, b, database)
 }
 
 // COLROW.

@@ -32,6 +32,9 @@ number-above R.OutOfRange = omega arith
 number-above R.NotClosed = omega arith
 number-above R.OutputShort = omega arith
 number-above R.ReportShort = omega arith
+number-above R.LibraryForm = omega arith
+number-above R.LibraryUnits = omega arith
+number-above R.LibraryName = omega arith
 number-above R.NotStructure = omega arith
 number-above R.InexactReal = omega arith
 number-above R.ArrayCorners = omega arith
@@ -46,8 +49,8 @@ byNumber =
     R.Policy ∷ R.Policy ∷ R.DatabaseUnit ∷ R.SheetSize ∷ R.Pairs ∷ R.Form
     ∷ R.Stamp ∷ R.Name ∷ R.PointCount ∷ R.LayerOrType ∷ R.StringLength ∷ R.ColumnsOrRows
     ∷ R.Spacing ∷ R.Magnification ∷ R.Real ∷ R.SineOrCosine ∷ R.SourceUnit ∷ R.NotFinite
-    ∷ R.OffGrid ∷ R.OutOfRange ∷ R.NotClosed ∷ R.OutputShort ∷ R.ReportShort ∷ R.Policy
-    ∷ R.Policy ∷ R.Policy ∷ R.Policy ∷ R.Policy ∷ R.NotStructure ∷ R.InexactReal
+    ∷ R.OffGrid ∷ R.OutOfRange ∷ R.NotClosed ∷ R.OutputShort ∷ R.ReportShort ∷ R.LibraryForm
+    ∷ R.LibraryUnits ∷ R.LibraryName ∷ R.Policy ∷ R.Policy ∷ R.NotStructure ∷ R.InexactReal
     ∷ R.ArrayCorners ∷ R.Policy ∷ R.Bounds ∷ R.SurveyCount ∷ []
 
 numbered : (r : Refusal) → getD byNumber (number r) R.Policy ≡ r
@@ -74,6 +77,9 @@ numbered R.OutOfRange = refl
 numbered R.NotClosed = refl
 numbered R.OutputShort = refl
 numbered R.ReportShort = refl
+numbered R.LibraryForm = refl
+numbered R.LibraryUnits = refl
+numbered R.LibraryName = refl
 numbered R.NotStructure = refl
 numbered R.InexactReal = refl
 numbered R.ArrayCorners = refl

@@ -1,4 +1,4 @@
-// Why a cell is not written (document 01, "Who can cause which refusal"); why a structure is not read (document 02, request 8: from `NotStructure` on); why two ends are no bounds (request 11: `Bounds`); why a row is not surveyed (request 12: `SurveyCount`).
+// Why a cell is not written (document 01, "Who can cause which refusal"); why a library is not (document 02, request 1: `LibraryForm` to `LibraryName`); why a structure is not read (document 02, request 8: `NotStructure` to `ArrayCorners`); why two ends are no bounds (request 11: `Bounds`); why a row is not surveyed (request 12: `SurveyCount`).
 ghost use mathlib.Core.Path.{_≡_};
 ghost use Rattle.refusal.specs.Number as Number;
 
@@ -25,6 +25,9 @@ pub enum Refusal {
     NotClosed,
     OutputShort,
     ReportShort,
+    LibraryForm,
+    LibraryUnits,
+    LibraryName,
     NotStructure,
     InexactReal,
     ArrayCorners,
@@ -60,6 +63,9 @@ impl Refusal {
             Refusal::NotClosed => 20,
             Refusal::OutputShort => 21,
             Refusal::ReportShort => 22,
+            Refusal::LibraryForm => 23,
+            Refusal::LibraryUnits => 24,
+            Refusal::LibraryName => 25,
             Refusal::NotStructure => 28,
             Refusal::InexactReal => 29,
             Refusal::ArrayCorners => 30,

@@ -5,3 +5,4 @@ pub mod Blocks
 pub mod Cell
 pub mod Encode
 pub mod code
+pub mod Library

@@ -5,3 +5,4 @@ pub mod Structure
 pub mod Drawn
 pub mod Records
 pub mod Read
+pub mod Library

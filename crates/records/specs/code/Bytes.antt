@@ -25,6 +25,10 @@ longRecordLength = 8
 abbrev pub realRecordLength : ℕ
 realRecordLength = 12
 
+-- UNITS' two reals
+abbrev pub unitsRecordLength : ℕ
+unitsRecordLength = 20
+
 -- a record of a string of n bytes, made even; the longest string whose record's length 2 bytes hold
 abbrev pub stringRecordLength : ℕ → ℕ
 stringRecordLength n = recordHead + (n + n % 2)
