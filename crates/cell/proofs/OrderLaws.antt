@@ -35,19 +35,22 @@ use Rattle.cell.proofs.CallLaws.{call-refused, call-long, call-passed, 
 use Rattle.cell.proofs.WalkLaws.{walk-ill, walk-refused, walk-made}
 
 -- a test that fails
-off : (t : Bool) → (T t → ⊥) → t ≡ false
+pub off : (t : Bool) → (T t → ⊥) → t ≡ false
 off true h = absurd (h tt)
 off false h = refl
 
-not-leb : (a b : ℕ) → (T (leb a b) → ⊥) → b < a
+pub not-leb : (a b : ℕ) → (T (leb a b) → ⊥) → b < a
 not-leb a b h = leb-false a b (off (leb a b) h)
 
 -- ---- every refusal is the first
 
 -- one more at the end
-all-snoc : {A : Type 0} {P : A → Type 0} {a : A} (s : List A) → All P s → P a → All P (s ++ a ∷ [])
+pub all-snoc : {A : Type 0} {P : A → Type 0} {a : A} (s : List A) → All P s → P a → All P (s ++ a ∷ [])
 all-snoc [] done k = more k done
 all-snoc (b ∷ s) (more h hs) k = more h (all-snoc s hs k)
+
+pub length-snoc : {A : Type 0} (b : A) (s : List A) → length (s ++ b ∷ []) ≡ suc (length s)
+length-snoc b s = omega (arith, length-append s (b ∷ []))
 
 module _ (policy : ℕ) (d : Float) (sheet : List ℕ) (out report : ℕ) where
   abbrev Firsts : {A : Type 0} → Result A → Type 0
@@ -59,13 +62,10 @@ module _ (policy : ℕ) (d : Float) (sheet : List ℕ) (out report : ℕ) where
   blocks-first at before [] s a = tt
   blocks-first at before (b ∷ bs) s a =
       go (writeBlocks (at .called .rounding) d (suc (length before)) bs)
-      (λ k. subst (λ (n : ℕ). Firsts (writeBlocks (at .called .rounding) d n bs)) (length-snoc before)
+      (λ k. subst (λ (n : ℕ). Firsts (writeBlocks (at .called .rounding) d n bs)) (length-snoc b before)
       (blocks-first at (before ++ b ∷ []) bs (s ∙ sym (append-assoc before (b ∷ []) bs)) (all-snoc before a k)))
       (elementOf b) refl
     where
-      length-snoc : (s : List (List ℕ)) → length (s ++ b ∷ []) ≡ suc (length s)
-      length-snoc s = omega (arith, length-append s (b ∷ []))
-
       reached : Reached policy d sheet b (suc (length before))
       reached = record { headed = at; before = before; after = bs; split = s; block = refl; accepted = a }
 

@@ -77,7 +77,7 @@ encodable-is none b y = no-yield y
 encodable-is (some a) b y = ap some (made-yields y)
 
 -- a real's bytes are bytes
-real8-bytes : (x : Float) (b : List ℕ) → real8 x ≡ some b → Bytes b
+pub real8-bytes : (x : Float) (b : List ℕ) → real8 x ≡ some b → Bytes b
 unfolding real8
 real8-bytes x b e = go (encoding x) e
   where

@@ -15,6 +15,7 @@ use Rattle.units.specs.declared.Unit.the-variants as U
 use Rattle.units.specs.Point.{Point}
 use Rattle.sheet.specs.Element.{Property, Head, Shape, Path, Text, Reference, Body, Element, maxPathType}
 use Rattle.sheet.specs.Element as S
+use Rattle.sheet.specs.Library.{LibraryHead}
 
 -- a number of two bytes
 abbrev pub Word : ℕ → Type 0
@@ -47,6 +48,12 @@ pub record FineProperty (q : Property) : Type 0 where
 
 pub record FineHead (h : Head) : Type 0 where
   pub name : FineString (h .name)
+  pub stamps : All Word (h .stamps)
+  pub twelve : length (h .stamps) ≡ 12
+
+pub record FineLibraryHead (h : LibraryHead) : Type 0 where
+  pub name : FineString (h .name)
+  pub userUnit : Double (h .userUnit)
   pub stamps : All Word (h .stamps)
   pub twelve : length (h .stamps) ≡ 12
 

@@ -24,7 +24,8 @@ use Rattle.units.specs.declared.Unit.the-variants as U
 use Rattle.sheet.specs.Form.{Form, integerKind, doubleKind, absentKind, integerLimit, bytes, num, code, flag, double, string, counted, coordinateOf, coordinate, point, spacingOf, spacing}
 use Rattle.sheet.specs.Element.{Head, Element, polygonKind, pathKind, textKind, nodeKind, referenceKind, maxPathType, property, headForm, shapeForm, pathTypeForm, pathForm, textForm, referenceForm, bodyForm, elementForm, headOf, elementOf}
 use Rattle.sheet.specs.Element as S
-use Rattle.sheet.proofs.Fine.{Word, Double, FineString, Counted, FineUnit, integer, float, FinePoint, FineProperty, FineHead, FineShape, FinePath, FineText, FineReference, FineBody, FineElement}
+use Rattle.sheet.specs.Library.{LibraryHead, libraryHeadForm, libraryHeadOf}
+use Rattle.sheet.proofs.Fine.{Word, Double, FineString, Counted, FineUnit, integer, float, FinePoint, FineProperty, FineHead, FineLibraryHead, FineShape, FinePath, FineText, FineReference, FineBody, FineElement}
 use Rattle.sheet.proofs.Fine as F
 
 -- n bytes
@@ -137,6 +138,14 @@ head-gives =
     (λ n hn. bind (gives-times Bytes 12 (num 2) (num-gives 2))
     (λ t ht. gives-pure Bytes _ (record { name = hn; stamps = ht .all; twelve = ht .count })))
 
+library-head-gives : Gives Bytes libraryHeadForm FineLibraryHead
+unfolding libraryHeadForm
+library-head-gives =
+    bind string-gives
+    (λ n hn. bind double-gives
+    (λ u hu. bind (gives-times Bytes 12 (num 2) (num-gives 2))
+    (λ t ht. gives-pure Bytes _ (record { name = hn; userUnit = hu; stamps = ht .all; twelve = ht .count }))))
+
 shape-gives : Gives Bytes shapeForm FineShape
 unfolding shapeForm
 shape-gives =
@@ -230,3 +239,7 @@ element-fine b e h k = gives-whole Bytes elementForm b e element-gives h k
 pub head-fine : (b : List ℕ) (h : Head) → Bytes b → headOf b ≡ some h → FineHead h
 unfolding headOf
 head-fine b h k e = gives-whole Bytes headForm b h head-gives k e
+
+pub library-head-fine : (b : List ℕ) (h : LibraryHead) → Bytes b → libraryHeadOf b ≡ some h → FineLibraryHead h
+unfolding libraryHeadOf
+library-head-fine b h k e = gives-whole Bytes libraryHeadForm b h library-head-gives k e

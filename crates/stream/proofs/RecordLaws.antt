@@ -119,12 +119,18 @@ listed-small (m ∷ ms) c k n s t = go (eqb (m .code) c) refl t (listed-small ms
         record { code = omega arith; dataType = omega arith }
     go false e t f = f t
 
+-- a record whose code, data type and data are bytes
+pub bytes-record : (r : Rec) → r .code < 256 → r .dataType < 256 → Bytes (r .content) → Bytes (recordBytes r)
+unfolding recordBytes
+bytes-record r h k b =
+    bytes-append (bytesOf 2 (4 + length (r .content))) (r .code ∷ r .dataType ∷ r .content) (bytes-bytesOf 2 (4 + length (r .content)))
+    (bytes-cons (r .code) (r .dataType ∷ r .content) h (bytes-cons (r .dataType) (r .content) k b))
+
 record-bytes : (r : Rec) → Good r → Bytes (recordBytes r)
-unfolding recordBytes ofManual manual
+unfolding ofManual manual
 record-bytes r g =
     let s = listed-small manual (r .code) (r .dataType) (length (r .content)) tt (g .manual) in
-    bytes-append (bytesOf 2 (4 + length (r .content))) (r .code ∷ r .dataType ∷ r .content) (bytes-bytesOf 2 (4 + length (r .content)))
-    (bytes-cons (r .code) (r .dataType ∷ r .content) (s .code) (bytes-cons (r .dataType) (r .content) (s .dataType) (g .bytes)))
+    bytes-record r (s .code) (s .dataType) (g .bytes)
 
 pub stream-bytes : (rs : List Rec) → All Good rs → Bytes (streamBytes rs)
 unfolding streamBytes

@@ -1,0 +1,8 @@
+-- Laws of a library's result, of its answer, of the order of its refusals, and of what its file draws.
+pub mod ResultLaws
+pub mod AnswerLaws
+pub mod CellsLaws
+pub mod FileLaws
+pub mod OrderLaws
+pub mod MeasureLaws
+pub mod DrawsLaws

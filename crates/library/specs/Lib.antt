@@ -1,0 +1,6 @@
+-- Writing a library: its cells in turn, the file, the answer in numbers, the order of the refusals, and what the file draws.
+pub mod Library
+pub mod Answer
+pub mod Order
+pub mod Agree
+pub mod Draws
