@@ -227,7 +227,7 @@ enum PropertiesForm {
 
 // ---- values by place
 
-fn double(b: &[u8], at: usize) -> f64
+pub fn double(b: &[u8], at: usize) -> f64
     requires { ⌜ at + 8 ≤ length (now b) ⌝ }
     ensures { λ r. ⌜ r ≡ doubleAt (now (b .entry)) at ⌝ }
 {

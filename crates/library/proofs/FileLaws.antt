@@ -24,19 +24,15 @@ use Rattle.stream.specs.Library.{HEADER, LIBNAME, ENDLIB, version, FileHead, be
 use Rattle.stream.proofs.RecordLaws.{bytes-record}
 use Rattle.stream.proofs.StringLaws.{padded-even}
 use Rattle.cell.proofs.PartLaws.{real8-bytes}
-use Rattle.library.specs.Library.{WrittenCell, headWith, fileHeadOf, reportFrom, libraryEntryLength, entriesIn, maxLibraryNameLength}
+use Rattle.library.specs.Library.{WrittenCell, fileHeadFor, headWith, fileHeadOf, reportFrom, libraryEntryLength, entriesIn, maxLibraryNameLength}
 use Rattle.library.specs.Order.{Encodable, UnitsRefused, userNotPositive, userNotEncodable, databaseNotEncodable}
 
 -- ---- 24 or the file's own records
 
--- what they are, of both reals
-abbrev pub headFrom : LibraryHead → List ℕ → List ℕ → FileHead
-headFrom h u d = record { stamps = h .stamps; name = padded (h .name); userUnit = u; databaseUnit = d }
-
 module _ (d : Float) (h : LibraryHead) where
   pub data Encoding : Option FileHead → Type 0 where
     refusing : UnitsRefused (h .userUnit) d → Encoding none
-    encoding : (e : Encodable (h .userUnit) d) → Encoding (some (headFrom h (e .user) (e .database)))
+    encoding : (e : Encodable (h .userUnit) d) → Encoding (some (fileHeadFor h (e .user) (e .database)))
 
   pub encodes : Encoding (fileHeadOf d h)
   unfolding fileHeadOf
@@ -61,7 +57,7 @@ pub head-bytes : (d : Float) (h : LibraryHead) (f : FileHead) → FineLibraryHea
 unfolding fileHeadRecords streamBytes
 head-bytes d h f fine n e = go (fileHeadOf d h) (encodes d h) e
   where
-    front : (e : Encodable (h .userUnit) d) → Bytes (fileHeadBytes (headFrom h (e .user) (e .database)))
+    front : (e : Encodable (h .userUnit) d) → Bytes (fileHeadBytes (fileHeadFor h (e .user) (e .database)))
     front e =
         bytes-append (recordBytes (wordRecord HEADER version)) _ (bytes-record (wordRecord HEADER version) (omega arith) (omega arith) (bytes-bytesOf 2 version))
         (bytes-append (recordBytes (beginRecord (h .stamps))) _ (bytes-record (beginRecord (h .stamps)) (omega arith) (omega arith) (bytes-joined (bytesOf 2) (bytes-bytesOf 2) (h .stamps)))
@@ -70,7 +66,7 @@ head-bytes d h f fine n e = go (fileHeadOf d h) (encodes d h) e
 
     go : (x : Option FileHead) → Encoding d h x → x ≡ some f → Bytes (fileHeadBytes f)
     go x (refusing u) e = let z : _≡_ {A = ℕ} 0 1 = cc in absurd (omega arith)
-    go x (encoding u) e = let z : headFrom h (u .user) (u .database) ≡ f = cc in subst (λ (y : FileHead). Bytes (fileHeadBytes y)) z (front u)
+    go x (encoding u) e = let z : fileHeadFor h (u .user) (u .database) ≡ f = cc in subst (λ (y : FileHead). Bytes (fileHeadBytes y)) z (front u)
 
 pub end-bytes : Bytes fileEndBytes
 unfolding streamBytes

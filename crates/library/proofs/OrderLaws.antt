@@ -29,12 +29,12 @@ use Rattle.cell.specs.Cell.{writeSheet}
 use Rattle.cell.specs.Order.{Called}
 use Rattle.cell.proofs.OrderLaws.{off, not-leb, all-snoc, length-snoc}
 use Rattle.cell.proofs.CallLaws.{call-refused, call-long, call-passed, Calling, unnamed, noUnit, tooLong, passes, calling}
-use Rattle.library.specs.Library.{Result, stopped, written, WrittenCell, inFront, writeOne, writeCells, LibraryFile, maxLibraryNameLength, fileWith, fileHeadOf, writeNamed, writeHeaded, writeLibrarySheet, afterCaller, libraryFile, fileBytes, libraryEntryLength, entriesIn, fitting, writeLibrary, noCell}
+use Rattle.library.specs.Library.{Result, stopped, written, WrittenCell, inFront, writeOne, writeCells, LibraryFile, maxLibraryNameLength, fileWith, fileHeadFor, fileHeadOf, writeNamed, writeHeaded, writeLibrarySheet, afterCaller, libraryFile, fileBytes, libraryEntryLength, entriesIn, fitting, writeLibrary, noCell}
 use Rattle.library.specs.Order.{Accepted, Encodable, UnitsRefused, userNotPositive, userNotEncodable, databaseNotEncodable, Formed, Headed, Reached, First, Ordered}
 use Rattle.library.specs.Order as O
 use Rattle.library.proofs.ResultLaws.{Stops, check-stops, check-on, check-off}
 use Rattle.library.proofs.CellsLaws.{walk-refused, walk-written}
-use Rattle.library.proofs.FileLaws.{headFrom, Encoding, refusing, encoding, encodes}
+use Rattle.library.proofs.FileLaws.{Encoding, refusing, encoding, encodes}
 
 module _ (policy : ℕ) (d : Float) (sheet : List ℕ) (out report : ℕ) where
   -- ---- every refusal is the first
@@ -72,7 +72,7 @@ module _ (policy : ℕ) (d : Float) (sheet : List ℕ) (out report : ℕ) where
       (λ n. whole (writeCells (at .called .rounding) d 0 (cellSheets sheet))
       (cells-first (record { formed = at; stamps = t; units = e; name = leb→le (length (at .head .name)) maxLibraryNameLength n }) [] (cellSheets sheet) refl done))
     where
-      whole : (x : Result (List WrittenCell)) → Firsts x → Firsts (fileWith (headFrom (at .head) (e .user) (e .database)) x)
+      whole : (x : Result (List WrittenCell)) → Firsts x → Firsts (fileWith (fileHeadFor (at .head) (e .user) (e .database)) x)
       whole (stopped r c k) f = f
       whole (written ws) f = tt
 
@@ -137,7 +137,7 @@ module _ (policy : ℕ) (d : Float) (sheet : List ℕ) (out report : ℕ) where
         go x (encoding e) (userNotEncodable n) = let f = e .user-is in let z : _≡_ {A = ℕ} 0 1 = cc in absurd (omega arith)
         go x (encoding e) (databaseNotEncodable n) = let f = e .database-is in let z : _≡_ {A = ℕ} 0 1 = cc in absurd (omega arith)
 
-    units-on : (e : Encodable (at .head .userUnit) d) → fileHeadOf d (at .head) ≡ some (headFrom (at .head) (e .user) (e .database))
+    units-on : (e : Encodable (at .head .userUnit) d) → fileHeadOf d (at .head) ≡ some (fileHeadFor (at .head) (e .user) (e .database))
     units-on e = go (fileHeadOf d (at .head)) (encodes d (at .head))
       where
         never : {X : Type 0} → UnitsRefused (at .head .userUnit) d → X
@@ -145,7 +145,7 @@ module _ (policy : ℕ) (d : Float) (sheet : List ℕ) (out report : ℕ) where
         never (userNotEncodable n) = let f = e .user-is in let z : _≡_ {A = ℕ} 0 1 = cc in absurd (omega arith)
         never (databaseNotEncodable n) = let f = e .database-is in let z : _≡_ {A = ℕ} 0 1 = cc in absurd (omega arith)
 
-        go : (x : Option FileHead) → Encoding d (at .head) x → x ≡ some (headFrom (at .head) (e .user) (e .database))
+        go : (x : Option FileHead) → Encoding d (at .head) x → x ≡ some (fileHeadFor (at .head) (e .user) (e .database))
         go x (refusing v) = never v
         go x (encoding f) =
             let u : f .user ≡ e .user = cc (f .user-is, e .user-is) in
@@ -153,12 +153,12 @@ module _ (policy : ℕ) (d : Float) (sheet : List ℕ) (out report : ℕ) where
             cc (u, b)
 
     encoded-is : T (stampsFit (at .head .stamps)) → (e : Encodable (at .head .userUnit) d)
-        → libraryFile policy d sheet ≡ writeNamed (at .called .rounding) d sheet (at .head) (some (headFrom (at .head) (e .user) (e .database)))
+        → libraryFile policy d sheet ≡ writeNamed (at .called .rounding) d sheet (at .head) (some (fileHeadFor (at .head) (e .user) (e .database)))
     encoded-is t e = stamped-is t ∙ ap (writeNamed (at .called .rounding) d sheet (at .head)) (units-on e)
 
   -- and the head
   headed-is : (at : Headed policy d sheet) → libraryFile policy d sheet
-      ≡ fileWith (headFrom (at .formed .head) (at .units .user) (at .units .database)) (writeCells (at .formed .called .rounding) d 0 (cellSheets sheet))
+      ≡ fileWith (fileHeadFor (at .formed .head) (at .units .user) (at .units .database)) (writeCells (at .formed .called .rounding) d 0 (cellSheets sheet))
   unfolding writeNamed
   headed-is at =
       encoded-is (at .formed) (at .stamps) (at .units)
@@ -178,7 +178,7 @@ module _ (policy : ℕ) (d : Float) (sheet : List ℕ) (out report : ℕ) where
       → writeCells (at .headed .formed .called .rounding) d (length (at .before)) (b ∷ at .after) ≡ stopped r (length (at .before)) k → libraryFile policy d sheet ≡ stopped r c k
   reached-is b c at r k e =
       let rounding = at .headed .formed .called .rounding in
-      let f = headFrom (at .headed .formed .head) (at .headed .units .user) (at .headed .units .database) in
+      let f = fileHeadFor (at .headed .formed .head) (at .headed .units .user) (at .headed .units .database) in
       headed-is (at .headed)
       ∙ ap (λ (bs : List (List ℕ)). fileWith f (writeCells rounding d 0 bs)) (at .split)
       ∙ ap (fileWith f) (past rounding 0 (length (at .before)) (at .before) (b ∷ at .after) r (length (at .before)) k (omega arith) (at .accepted) e)

@@ -78,11 +78,15 @@ abbrev pub fileWith : FileHead → Result (List WrittenCell) → Result LibraryF
 fileWith h (stopped r c k) = stopped r c k
 fileWith h (written ws) = written (record { head = h; cells = ws })
 
--- UNITS' two reals, the user unit's and d's, where both have an encoding
+-- the file's own records, of a head and the two reals of UNITS
+abbrev pub fileHeadFor : LibraryHead → List ℕ → List ℕ → FileHead
+fileHeadFor h u d = record { stamps = h .stamps; name = padded (h .name); userUnit = u; databaseUnit = d }
+
+-- where the user unit's real and d's both have an encoding
 abbrev pub headWith : LibraryHead → Option (List ℕ) → Option (List ℕ) → Option FileHead
 headWith h none d = none
 headWith h (some u) none = none
-headWith h (some u) (some d) = some (record { stamps = h .stamps; name = padded (h .name); userUnit = u; databaseUnit = d })
+headWith h (some u) (some d) = some (fileHeadFor h u d)
 
 -- "24 user unit not finite or not positive, or a real of UNITS not finite or not encodable": then there is none
 unfoldable pub fileHeadOf : Float → LibraryHead → Option FileHead
