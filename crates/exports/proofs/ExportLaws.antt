@@ -20,6 +20,10 @@ use Rattle.cell.specs.declared.Answer.{Answer}
 use Rattle.cell.specs.declared.Answer.the-variants as A
 use Rattle.cell.specs.Answer.{Values, valuesOf}
 use Rattle.write_cell.specs.Writer.{MeasuresCell, WritesCell}
+use Rattle.library.specs.declared.LibraryAnswer.{LibraryAnswer}
+use Rattle.library.specs.declared.LibraryAnswer.the-variants as L
+use Rattle.library.specs.Answer as Library
+use Rattle.write_library.specs.Writer.{MeasuresLibrary, WritesLibrary}
 
 -- ---- a cell: each case of the answer
 
@@ -37,6 +41,23 @@ measures-in {policy} {d} {sheet} m e = subst (λ (u : Values). MeasuresCell poli
 pub writes-in : {policy : ℕ} {d : Float} {sheet out report out′ report′ : List ℕ} {v w : Values} → WritesCell policy d sheet out report out′ report′ w → v ≡ w
     → WritesCell policy d sheet out report out′ report′ v
 writes-in {policy} {d} {sheet} {out} {report} {out′} {report′} m e = subst (λ (u : Values). WritesCell policy d sheet out report out′ report′ u) (sym e) m
+
+-- ---- a library: each case of the answer
+
+pub library-refused-in : {a : LibraryAnswer} {x : Refusal} {r c k : ℕ} → a ≡ L.Refused x c k → r ≡ number x
+    → _≡_ {A = Library.Values} (record { number = r; cell = c; block = k; length = 0; entries = 0; greatest = ofBits binary64 0 }) (Library.valuesOf a)
+library-refused-in {x = x} {c = c} {k = k} e p = rw (e, p) (ap (λ (g : Float). record { number = number x; cell = c; block = k; length = 0; entries = 0; greatest = g }) zero-is)
+
+pub library-accepted-in : {a : LibraryAnswer} {n k : ℕ} {g : Float} → a ≡ L.Accepted n k g
+    → _≡_ {A = Library.Values} (record { number = 0; cell = 0; block = 0; length = n; entries = k; greatest = g }) (Library.valuesOf a)
+library-accepted-in e = rw e refl
+
+pub library-measures-in : {policy : ℕ} {d : Float} {sheet : List ℕ} {v w : Library.Values} → MeasuresLibrary policy d sheet w → v ≡ w → MeasuresLibrary policy d sheet v
+library-measures-in {policy} {d} {sheet} m e = subst (λ (u : Library.Values). MeasuresLibrary policy d sheet u) (sym e) m
+
+pub library-writes-in : {policy : ℕ} {d : Float} {sheet out report out′ report′ : List ℕ} {v w : Library.Values} → WritesLibrary policy d sheet out report out′ report′ w → v ≡ w
+    → WritesLibrary policy d sheet out report out′ report′ v
+library-writes-in {policy} {d} {sheet} {out} {report} {out′} {report′} m e = subst (λ (u : Library.Values). WritesLibrary policy d sheet out report out′ report′ u) (sym e) m
 
 -- ---- lengths within bounds: each case of the answer
 
