@@ -10,9 +10,10 @@ use lib.Ieee.{Float, binary64, ofBits}
 use borrow.Author.Tests.{leb-true, leb-false, le-leb, lt-leb, ltb-true, lt-ltb, le-ltb}
 use Rattle.big_endian.specs.Big.{numberAt}
 use Rattle.big_endian.specs.Buffer.{WroteAt}
-use Rattle.cell.specs.Cell.{writeCell}
-use Rattle.test_vectors.proofs.AnswerLaws.{both, alike, put-whole, same-is}
-use Rattle.test_vectors.specs.Case.{answerBytes, inputLength, answerLength, fits, Fits, definedAt, storedAt, sameBytes, answeredAt, agreesAt, next, verdictsFrom, verdicts, differing}
+use Rattle.test_answers.specs.Answer.{answerBytes}
+use Rattle.test_answers.proofs.AnswerLaws.{put-whole}
+use Rattle.test_vectors.proofs.SameLaws.{both, alike, same-is}
+use Rattle.test_vectors.specs.Case.{inputLength, answerLength, fits, Fits, definedAt, storedAt, sameBytes, answeredAt, agreesAt, next, verdictsFrom, verdicts, differing}
 
 -- ---- within the bytes
 
@@ -35,33 +36,33 @@ module _ (s : List ℕ) (at : ℕ) where
   unfolding fits
   fits-true e =
       let p = leb (at + 8) (length s) in
-      let q = leb 9 n in
+      let q = leb 10 n in
       let r = leb (at + 8 + n) (length s) in
       let a = both (p && q && r) (leb (at + 8 + n + m) (length s)) e in
       let b = both (p && q) r (a .0) in
       let c = both p q (b .0) in
-      record { front = leb-true 9 n (c .1); input = leb-true (at + 8 + n) (length s) (b .1); answer = leb-true (at + 8 + n + m) (length s) (a .1) }
+      record { front = leb-true 10 n (c .1); input = leb-true (at + 8 + n) (length s) (b .1); answer = leb-true (at + 8 + n + m) (length s) (a .1) }
 
   -- each way out of the test
   pub no-lengths : length s < at + 8 → false ≡ fits s at
   unfolding fits
   no-lengths h = simp (lt-leb (at + 8) (length s) h)
 
-  pub no-front : at + 8 ≤ length s → n < 9 → false ≡ fits s at
+  pub no-front : at + 8 ≤ length s → n < 10 → false ≡ fits s at
   unfolding fits
-  no-front h i = simp (le-leb (at + 8) (length s) h, lt-leb 9 n i)
+  no-front h i = simp (le-leb (at + 8) (length s) h, lt-leb 10 n i)
 
-  pub no-input : at + 8 ≤ length s → 9 ≤ n → length s < at + 8 + n → false ≡ fits s at
+  pub no-input : at + 8 ≤ length s → 10 ≤ n → length s < at + 8 + n → false ≡ fits s at
   unfolding fits
-  no-input h i j = simp (le-leb (at + 8) (length s) h, le-leb 9 n i, lt-leb (at + 8 + n) (length s) j)
+  no-input h i j = simp (le-leb (at + 8) (length s) h, le-leb 10 n i, lt-leb (at + 8 + n) (length s) j)
 
   -- the last test, by what is left of the bytes
-  pub by-answer : (a b : ℕ) → a ≡ n → b ≡ numberAt 4 s (at + 4 + a) → at + 8 ≤ length s → 9 ≤ a → a ≤ length s - at - 8 → leb b (length s - at - 8 - a) ≡ fits s at
+  pub by-answer : (a b : ℕ) → a ≡ n → b ≡ numberAt 4 s (at + 4 + a) → at + 8 ≤ length s → 10 ≤ a → a ≤ length s - at - 8 → leb b (length s - at - 8 - a) ≡ fits s at
   unfolding fits
   by-answer a b e f h i j =
       let g : b ≡ m = f ∙ ap (λ (k : ℕ). numberAt 4 s (at + 4 + k)) e in
       leb-same b (length s - at - 8 - a) (at + 8 + n + m) (length s) (λ u. omega arith) (λ u. omega arith)
-      ∙ simp (le-leb (at + 8) (length s) h, le-leb 9 n (omega arith), le-leb (at + 8 + n) (length s) (omega arith))
+      ∙ simp (le-leb (at + 8) (length s) h, le-leb 10 n (omega arith), le-leb (at + 8 + n) (length s) (omega arith))
 
   pub agrees-fits : fits s at ≡ true → answeredAt s at ≡ agreesAt s at
   unfolding agreesAt
@@ -102,27 +103,27 @@ stored-end s at a b f e g =
     omega arith
 
 -- r says whether what was put is what is stored
-pub answered-is : (s : List ℕ) (at a b policy end : ℕ) (d : Float) (before text : List ℕ) (r : Bool)
-    → a ≡ inputLength s at → b ≡ numberAt 4 s (at + 4 + a) → policy ≡ numberAt 1 s (at + 4) → d ≡ ofBits binary64 (numberAt 8 s (at + 5))
-    → WroteAt (answerBytes (writeCell policy d (take (at + 4 + a - (at + 13)) (drop (at + 13) s)) 16384 8192)) before text 0 end
+pub answered-is : (s : List ℕ) (at a b job policy end : ℕ) (d : Float) (before text : List ℕ) (r : Bool)
+    → a ≡ inputLength s at → b ≡ numberAt 4 s (at + 4 + a) → job ≡ numberAt 1 s (at + 4) → policy ≡ numberAt 1 s (at + 5) → d ≡ ofBits binary64 (numberAt 8 s (at + 6))
+    → WroteAt (answerBytes job policy d (take (at + 4 + a - (at + 14)) (drop (at + 14) s))) before text 0 end
     → (r ≡ true → take end text ≡ take (at + 8 + a + b - (at + 8 + a)) (drop (at + 8 + a) s))
     → (take end text ≡ take (at + 8 + a + b - (at + 8 + a)) (drop (at + 8 + a) s) → r ≡ true)
     → r ≡ answeredAt s at
 unfolding answeredAt definedAt storedAt
-answered-is s at a b policy end d before text r e f g h w i j =
-    let k : at + 4 + a - (at + 13) ≡ inputLength s at - 9 = omega arith in
+answered-is s at a b job policy end d before text r e f q g h w i j =
+    let k : at + 4 + a - (at + 14) ≡ inputLength s at - 10 = omega arith in
     let l : b ≡ answerLength s at = f ∙ ap (λ (x : ℕ). numberAt 4 s (at + 4 + x)) e in
     let o : at + 8 + a + b - (at + 8 + a) ≡ answerLength s at = omega arith in
-    let u : take end text ≡ answerBytes (definedAt s at) = put-whole w ∙ cc in
+    let u : take end text ≡ definedAt s at = put-whole w ∙ cc in
     let v : take (at + 8 + a + b - (at + 8 + a)) (drop (at + 8 + a) s) ≡ storedAt s at = ap₂ (λ (x y : ℕ). take x (drop (at + 8 + y) s)) o e in
     same-is (take end text) _ r i j ∙ ap₂ sameBytes u v
 
 -- so a case that agrees has the bytes that the definition gives
-pub agreeing : (s : List ℕ) (at : ℕ) → agreesAt s at ≡ true → Fits s at × (answerBytes (definedAt s at) ≡ storedAt s at)
+pub agreeing : (s : List ℕ) (at : ℕ) → agreesAt s at ≡ true → Fits s at × (definedAt s at ≡ storedAt s at)
 unfolding agreesAt answeredAt
 agreeing s at e =
     let a = both (fits s at) (answeredAt s at) e in
-    (fits-true s at (a .0), alike (answerBytes (definedAt s at)) (storedAt s at) (a .1))
+    (fits-true s at (a .0), alike (definedAt s at) (storedAt s at) (a .1))
 
 -- ---- the cases in turn
 

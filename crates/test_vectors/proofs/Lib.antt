@@ -1,3 +1,3 @@
--- The bytes of an answer, the room for what is accepted, a case within the bytes, and the cases in turn.
-pub mod AnswerLaws
+-- Bytes that are the same, a case within the bytes, and the cases in turn.
+pub mod SameLaws
 pub mod CaseLaws

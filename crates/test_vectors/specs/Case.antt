@@ -1,31 +1,13 @@
--- Stored cases, one after the other: each an input of the cell writer and the answer that another implementation gave. Their layout stands in tools/pack_cases.py. Assumes nothing.
+-- Stored cases, one after the other: each an input of the cell writer or the library writer and the answer that another implementation gave. Their layout stands in tools/pack_cases.py. Assumes nothing.
 use mathlib.Core.Bool.{Bool, true, false, _&&_, cond}
-use mathlib.Core.List.{List, [], _∷_, _++_}
+use mathlib.Core.List.{List, [], _∷_}
 use Prim.Native.Nat.{ℕ, zero, suc, _+_, _-_, _≤_}
 use lib.Dec.{eqb, leb, ltb}
 use lib.ListN.{length, take, drop}
-use lib.Ieee.{Float, binary64, ofBits, toBits}
-use Rattle.big_endian.specs.Big.{bytesOf, numberAt}
-use Rattle.binary64.specs.Value.{zero64}
-use Rattle.refusal.specs.Number.{number}
-use Rattle.conversion.specs.Entry.{greatestFrom, reportBytes}
-use Rattle.stream.specs.Structure.{Structure}
-use Rattle.cell.specs.Cell.{Result, stopped, written, writeCell, structureBytes}
+use lib.Ieee.{binary64, ofBits}
+use Rattle.big_endian.specs.Big.{numberAt}
+use Rattle.test_answers.specs.Answer.{answerBytes}
 use Rattle.test_vectors.specs.declared.Tally.{Tally}
-
--- ---- the bytes of an answer
-
--- 0, the number in 1 byte, the block in 4
-unfoldable pub refusedBytes : ℕ → ℕ → List ℕ
-refusedBytes n block = 0 ∷ bytesOf 1 n ++ bytesOf 4 block
-
--- 1, the structure's length and the entry count in 4 bytes each, the greatest error's bits
-unfoldable pub frontBytes : ℕ → ℕ → Float → List ℕ
-frontBytes size entries greatest = 1 ∷ bytesOf 4 size ++ bytesOf 4 entries ++ bytesOf 8 (toBits binary64 greatest)
-
-unfoldable pub answerBytes : Result Structure → List ℕ
-answerBytes (stopped r k) = refusedBytes (number r) k
-answerBytes (written s es) = frontBytes (length (structureBytes s)) (length es) (greatestFrom zero64 es) ++ structureBytes s ++ reportBytes es
 
 -- ---- the case at a place of the bytes s
 
@@ -36,23 +18,23 @@ inputLength s at = numberAt 4 s at
 abbrev pub answerLength : List ℕ → ℕ → ℕ
 answerLength s at = numberAt 4 s (at + 4 + inputLength s at)
 
--- all of it lies within s, and the input has a policy byte and a d
+-- all of it lies within s, and the input has a job, a policy byte and a d
 unfoldable pub fits : List ℕ → ℕ → Bool
 fits s at =
     leb (at + 8) (length s)
-    && leb 9 (inputLength s at)
+    && leb 10 (inputLength s at)
     && leb (at + 8 + inputLength s at) (length s)
     && leb (at + 8 + inputLength s at + answerLength s at) (length s)
 
 -- the same as facts
 pub record Fits (s : List ℕ) (at : ℕ) : Type 0 where
-  pub front : 9 ≤ inputLength s at
+  pub front : 10 ≤ inputLength s at
   pub input : at + 8 + inputLength s at ≤ length s
   pub answer : at + 8 + inputLength s at + answerLength s at ≤ length s
 
--- what writing the input's cell gives, into an output of 16,384 bytes and a report of 8,192
-unfoldable pub definedAt : List ℕ → ℕ → Result Structure
-definedAt s at = writeCell (numberAt 1 s (at + 4)) (ofBits binary64 (numberAt 8 s (at + 5))) (take (inputLength s at - 9) (drop (at + 13) s)) 16384 8192
+-- the bytes of what writing the input's cell or library answers
+unfoldable pub definedAt : List ℕ → ℕ → List ℕ
+definedAt s at = answerBytes (numberAt 1 s (at + 4)) (numberAt 1 s (at + 5)) (ofBits binary64 (numberAt 8 s (at + 6))) (take (inputLength s at - 10) (drop (at + 14) s))
 
 unfoldable pub storedAt : List ℕ → ℕ → List ℕ
 storedAt s at = take (answerLength s at) (drop (at + 8 + inputLength s at) s)
@@ -64,7 +46,7 @@ sameBytes (a ∷ s) [] = false
 sameBytes (a ∷ s) (b ∷ t) = eqb a b && sameBytes s t
 
 unfoldable pub answeredAt : List ℕ → ℕ → Bool
-answeredAt s at = sameBytes (answerBytes (definedAt s at)) (storedAt s at)
+answeredAt s at = sameBytes (definedAt s at) (storedAt s at)
 
 -- a case that does not fit differs
 unfoldable pub agreesAt : List ℕ → ℕ → Bool

@@ -32,32 +32,38 @@ add-u8-at c = search needs
 u8-at-requires : tie.Need-u8-at-requires
 u8-at-requires c κs = search needs
 
+add-u8-at-2 : tie.Need-add-u8-at-2
+add-u8-at-2 c = search needs
+
+u8-at-requires-2 : tie.Need-u8-at-requires-2
+u8-at-requires-2 c κs = search needs
+
 add-double-at : tie.Need-add-double-at
 add-double-at c = search needs
 
 double-at-requires : tie.Need-double-at-requires
 double-at-requires c κs = search needs
 
+add-sheet : tie.Need-add-sheet
+add-sheet c = search needs
+
+add-sheet-2 : tie.Need-add-sheet-2
+add-sheet-2 c = search needs
+
+add-sheet-3 : tie.Need-add-sheet-3
+add-sheet-3 c = search needs
+
+sub-sheet : tie.Need-sub-sheet
+sub-sheet c = search needs
+
+part-sheet-start : tie.Need-part-sheet-start
+part-sheet-start c = search needs
+
+part-sheet-end : tie.Need-part-sheet-end
+part-sheet-end c = search needs
+
 slice-aggregate-put-answer : tie.Need-slice-aggregate-put-answer
 slice-aggregate-put-answer c = search needs
-
-add-put-answer : tie.Need-add-put-answer
-add-put-answer c = search needs
-
-add-put-answer-2 : tie.Need-add-put-answer-2
-add-put-answer-2 c = search needs
-
-add-put-answer-3 : tie.Need-add-put-answer-3
-add-put-answer-3 c = search needs
-
-sub-put-answer : tie.Need-sub-put-answer
-sub-put-answer c = search needs
-
-part-put-answer-start : tie.Need-part-put-answer-start
-part-put-answer-start c = search needs
-
-part-put-answer-end : tie.Need-part-put-answer-end
-part-put-answer-end c = search needs
 
 put-answer-requires : tie.Need-put-answer-requires
 put-answer-requires c κs = search needs
@@ -90,7 +96,7 @@ part-same-start c = search needs
 
 part-same-end : tie.Need-part-same-end
 part-same-end c =
-    let at-u32-at2 = c .before .before .before .before .before .before .before in
+    let at-u32-at2 = c .before .before .before .before .before .before .before .before in
     let at-u32-at = at-u32-at2 .before in
     let start = at-u32-at .before .before in
     let h = stored-end (start .args .cases .now) (start .args .at) (at-u32-at .u32-at .result) (at-u32-at2 .u32-at2 .result) (start .pre) (at-u32-at .u32-at .ensures) (at-u32-at2 .u32-at2 .ensures) in
@@ -103,19 +109,22 @@ returns : tie.Need-returns
 returns c =
     let at-put-answer = c .before .before .before .before in
     let at-double-at = at-put-answer .before .before .before in
-    let at-u8-at = at-double-at .before in
-    let at-u32-at2 = at-u8-at .before in
+    let at-policy = at-double-at .before in
+    let at-job = at-policy .before in
+    let at-u32-at2 = at-job .before in
     let at-u32-at = at-u32-at2 .before in
     let start = at-u32-at .before .before in
     answered-is (start .args .cases .now)
     (start .args .at)
     (at-u32-at .u32-at .result)
     (at-u32-at2 .u32-at2 .result)
-    (at-u8-at .u8-at .result)
+    (at-job .u8-at .result)
+    (at-policy .u8-at2 .result)
     (at-put-answer .put-answer .result) (at-double-at .double-at .result)
     _ _ (c .same .result) (at-u32-at .u32-at .ensures)
     (at-u32-at2 .u32-at2 .ensures)
-    (at-u8-at .u8-at .ensures)
+    (at-job .u8-at .ensures)
+    (at-policy .u8-at2 .ensures)
     (at-double-at .double-at .ensures)
     (at-put-answer .put-answer .ensures) (c .same .ensures .0)
     (c .same .ensures .1)
@@ -132,15 +141,17 @@ answered-spec =
     cast-m
     add-u8-at
     u8-at-requires
+    add-u8-at-2
+    u8-at-requires-2
     add-double-at
     double-at-requires
+    add-sheet
+    add-sheet-2
+    add-sheet-3
+    sub-sheet
+    part-sheet-start
+    part-sheet-end
     slice-aggregate-put-answer
-    add-put-answer
-    add-put-answer-2
-    add-put-answer-3
-    sub-put-answer
-    part-put-answer-start
-    part-put-answer-end
     put-answer-requires
     add-start
     add-start-2

@@ -1,0 +1,2 @@
+-- The bytes of stored answers.
+pub mod Answer
