@@ -1,9 +1,9 @@
 #!/usr/bin/env python3
-"""An independent model of the program `structure`, for stored results. A convenience, outside the proof.
+"""An independent model of the program `structure`, and of writing libraries, for stored results. A convenience, outside the proof.
 
-It follows document 01 and gdsr's write/mod.rs, validation.rs and conversion.rs, and shares no code with the proved
-writer. Products, quotients and differences are Python's, IEEE doubles; mul_add, rounding to whole numbers and eight-byte
-reals are worked out over exact fractions; one step is taken from bit patterns.
+It follows document 01, request 1 of document 02, and gdsr's write/mod.rs, validation.rs and conversion.rs, and shares no
+code with the proved writer. Products, quotients and differences are Python's, IEEE doubles; mul_add, rounding to whole
+numbers and eight-byte reals are worked out over exact fractions; one step is taken from bit patterns.
 
     model.py CASES      compares the answers stored in a file of cases with the model's, and counts
     model.py            reads the program's input from standard input and prints the program's lines
@@ -17,16 +17,17 @@ from fractions import Fraction
 import sheet as form
 from sheet import bits_of, double_of
 
-OUTPUT, REPORT, LONGEST_SHEET, MAX_SHEET, ENTRY = 16384, 8192, 24576, 16777216, 33
+OUTPUT, REPORT, LONGEST_SHEET, MAX_SHEET = 16384, 8192, 24576, 16777216
+LIBRARY_OUTPUT, LIBRARY_REPORT, NO_CELL, LONGEST_STRING = 65536, 16384, 4294967295, 65530  # the first two: buffers of stored libraries
 NEAREST, FLOOR, CEILING, STRICT = range(4)
 POINT, WIDTH, BEGIN, END, ORIGIN, COLUMN, ROW, COLUMN_END, ROW_END = range(9)
 X, Y, NONE = range(3)
 
 
 class Refused(Exception):
-    def __init__(self, number, block=0):
-        super().__init__(number, block)
-        self.number, self.block = number, block
+    def __init__(self, number, block=0, cell=NO_CELL):
+        super().__init__(number, block, cell)
+        self.number, self.block, self.cell = number, block, cell
 
 
 def need(test, number):
@@ -190,7 +191,7 @@ def layer_and_type(e):
 def tail(properties):
     parts = []
     for p in properties:
-        need(len(p.value) <= 65530, 10)
+        need(len(p.value) <= LONGEST_STRING, 10)
         parts.append(words(0x2b, p.attribute) + string(0x2c, p.value))
     return b"".join(parts) + record(0x11, 0)
 
@@ -296,27 +297,96 @@ def write_block(policy, d, sheet, pair, k):
         raise Refused(refused.number, k) from None
 
 
-def write_cell(policy, d, sheet, output=OUTPUT, report=REPORT):
-    """(structure, entries, greatest error), or Refused."""
-    need(policy <= 3, 1)
-    need(positive(d), 2)
-    need(len(sheet) <= MAX_SHEET, 3)
+def stamped(stamps):
+    return not any(stamps) or is_date(*stamps[:6]) and is_date(*stamps[6:])
+
+
+def write_structure(policy, d, sheet):
+    """(structure, entries with their errors) of a cell from its 4 on, or Refused."""
     try:
         pairs = form.read_pairs(sheet)
         name, stamps = form.read_head(sheet, pairs[0])
     except form.Ill as ill:
         raise Refused(4 if ill.pairs else 5) from None
-    need(not any(stamps) or is_date(*stamps[:6]) and is_date(*stamps[6:]), 6)
+    need(stamped(stamps), 6)
     need(is_name(name), 7)
     parts, found = [words(0x05, *stamps), string(0x06, name)], []
     for k, pair in enumerate(pairs[1:], 1):
         part, entry = write_block(policy, d, sheet, pair, k)
         parts.append(part)
         found += entry
-    structure = b"".join(parts) + record(0x07, 0)
-    need(len(structure) <= output, 21)
-    need(ENTRY * len(found) <= report, 22)
-    return structure, [e for _, e in found], max([error for error, _ in found], default=0.0)
+    return b"".join(parts) + record(0x07, 0), found
+
+
+def called(policy, d, sheet):
+    need(policy <= 3, 1)
+    need(positive(d), 2)
+    need(len(sheet) <= MAX_SHEET, 3)
+
+
+def fitted(stream, found, output, report):
+    """(stream, entries, greatest error) where both fit their buffers."""
+    entries = [entry for _, entry in found]
+    need(len(stream) <= output, 21)
+    need(sum(map(len, entries)) <= report, 22)
+    return stream, entries, max([error for error, _ in found], default=0.0)
+
+
+def write_cell(policy, d, sheet, output=OUTPUT, report=REPORT):
+    """(structure, entries, greatest error), or Refused."""
+    called(policy, d, sheet)
+    return fitted(*write_structure(policy, d, sheet), output, report)
+
+
+# ---- the library: document 02, request 1, and `write_gds_head_to_file`
+
+
+def units(user, d):
+    need(positive(user), 24)
+    try:
+        return record(0x03, 5, real8(user) + real8(d))
+    except Refused:
+        raise Refused(24) from None
+
+
+def library_front(d, sheet):
+    """(HEADER, BGNLIB, LIBNAME and UNITS, the pairs of the cells)"""
+    try:
+        head, *cells = form.read_pairs(sheet)
+        name, user, stamps = form.read_library_head(sheet, head)
+    except form.Ill:
+        raise Refused(23) from None
+    need(stamped(stamps), 6)
+    reals = units(double_of(user), d)
+    need(len(name) <= LONGEST_STRING, 25)
+    return words(0x00, 0x0258) + words(0x01, *stamps) + string(0x02, name) + reals, cells
+
+
+def library(policy, d, sheet, output=LIBRARY_OUTPUT, report=LIBRARY_REPORT):
+    """(file, entries, greatest error), or Refused with the cell."""
+    called(policy, d, sheet)
+    front, cells = library_front(d, sheet)
+    parts, found = [front], []
+    for k, (offset, length) in enumerate(cells):
+        try:
+            structure, entries = write_structure(policy, d, sheet[offset:offset + length])
+        except Refused as refused:
+            raise Refused(refused.number, refused.block, k) from None
+        parts.append(structure)
+        found += [(error, struct.pack(">I", k) + entry) for error, entry in entries]
+    return fitted(b"".join(parts) + record(0x04, 0), found, output, report)
+
+
+# ---- stored answers
+
+
+def accepted_lines(stream, entries, greatest):
+    return [f"ok {len(stream)} {len(entries)} {bits_of(greatest):016x}", stream.hex()] + [e.hex() for e in entries]
+
+
+def call_of(given):
+    """(policy, d, sheet)"""
+    return given[0], struct.unpack(">d", given[1:9])[0], given[9:]
 
 
 def answer(given):
@@ -326,19 +396,44 @@ def answer(given):
     if len(given) - 9 > LONGEST_SHEET:
         return ["long"]
     try:
-        structure, entries, greatest = write_cell(given[0], struct.unpack(">d", given[1:9])[0], given[9:])
+        return accepted_lines(*write_cell(*call_of(given)))
     except Refused as refused:
         return [f"no {refused.number} {refused.block}"]
-    return [f"ok {len(structure)} {len(entries)} {bits_of(greatest):016x}", structure.hex()] + [e.hex() for e in entries]
+
+
+def library_answer(given):
+    """The lines of a stored library."""
+    if len(given) < 9:
+        return ["short"]
+    try:
+        return accepted_lines(*library(*call_of(given)))
+    except Refused as refused:
+        return [f"no {refused.number} {refused.cell} {refused.block}"]
+
+
+CELL, LIBRARY = "cell", "library"
+JOBS = {CELL: answer, LIBRARY: library_answer}
+
+
+def case_of(line):
+    """(name, job, input in hex, lines joined by a bar) of a case's line; a cell's job may be missing."""
+    name, _, rest = line.partition(" ")
+    job, _, others = rest.partition(" ")
+    if job in JOBS:
+        rest = others
+    given, _, printed = rest.partition(" ")
+    if not printed:
+        raise ValueError(f"a case is a name, an input and an answer, with `{LIBRARY}` before a library's input")
+    return name, job if job in JOBS else CELL, given, printed
 
 
 def read_cases(path):
-    """(name, input, lines) of each case; `#` starts a comment line."""
+    """(name, job, input, lines) of each case; `#` starts a comment line."""
     with open(path, encoding="utf-8") as f:
         for line in f:
             if line.strip() and not line.startswith("#"):
-                name, given, printed = line.rstrip("\n").split(" ", 2)
-                yield name, b"" if given == "-" else bytes.fromhex(given), printed.split("|")
+                name, job, given, printed = case_of(line.rstrip("\n"))
+                yield name, job, b"" if given == "-" else bytes.fromhex(given), printed.split("|")
 
 
 def main():
@@ -350,7 +445,8 @@ def main():
         cases = list(read_cases(sys.argv[1]))
     except (OSError, ValueError) as fault:
         sys.exit(f"model.py: {form.plain(fault)}")
-    wrong = [(name, lines, answer(given)) for name, given, lines in cases if answer(given) != lines]
+    found = [(name, lines, JOBS[job](given)) for name, job, given, lines in cases]
+    wrong = [case for case in found if case[1] != case[2]]
     for name, lines, found in wrong:
         print(f"{name}: stored {lines[0]}, model {found[0]}")
     print(f"{len(cases)} cases, {len(wrong)} differ")

@@ -1,11 +1,11 @@
 #!/usr/bin/env python3
-"""Prints cases of the program `structure` for every refusal and limit. A convenience, outside the proof.
+"""Prints cases of the program `structure`, and of libraries, for every refusal and limit. A convenience, outside the proof.
 
     python3 tools/own_cases.py > target/own_cases.txt
 
 A case is a comment line with its reason, then a line in the form that tools/pack_cases.py takes. Answers come from
 tools/model.py. What a sheet of 24,576 bytes cannot reach is not here: refusal 3, 8,191 points, a property value of
-65,530 bytes, 16,384 pairs.
+65,530 bytes, 16,384 pairs, a library name of 65,530 bytes (25), a file of 65,536 bytes (21 of a library).
 """
 import math
 import random
@@ -525,18 +525,227 @@ def mixed():
         yield f"a mixed cell, {POLICIES[k % 3]}", cell(*elements, policy=k % 3, d=1e-9, stamps=DATE + DATE, name=b"MIX_%d" % k)
 
 
+# ---- libraries: the caller, 23, the library's 6, 24
+
+
+def sheet(*elements, name=b"A", stamps=ZERO):
+    return form.sheet_of_blocks(blocks(*elements, name=name, stamps=stamps))
+
+
+def front(name=b"LIB", user=0.001, stamps=ZERO):
+    return form.library_head_bytes(name, user if isinstance(user, int) else bits_of(user), stamps)
+
+
+def library(*cells, policy=0, d=1.0, **head):
+    return given(form.sheet_of_blocks([front(**head), *cells]), policy, d)
+
+
+NO_SHEET = b"\0"
+LATE = [1] * 11 + [60]
+
+
+def library_caller():
+    for policy in (0, 1, 2, 3, 4, 255):
+        yield f"a library, policy {policy}", library(sheet(), policy=policy)
+    for d in (math.nan, UP, DOWN, 0.0, -0.0, -1.0):
+        yield f"a library, d {d!r}: 2, not 24", library(sheet(), d=d)
+    yield "1 before 2", library(sheet(), policy=4, d=math.nan)
+    yield "1 before 23", given(b"", policy=4)
+    yield "2 before 23", given(b"", d=0.0)
+    yield "2 before the library's 6", library(stamps=LATE, d=0.0)
+
+
+def library_pairs():
+    head, tail = front(), sheet()
+    size, many = len(head), len(tail)
+    for n in range(5):
+        yield f"a library sheet of {n} bytes: 23, not 4", given(bytes(n))
+    for n in (0, 2, 16384, 16385, 2**32 - 1):
+        yield f"pair count {n} over one pair", given(pairs_of((12, size), rest=head, count=n))
+    for offset in (11, 13, 0, 2**32 - 1):
+        yield f"block 0 at {offset}, not 12", given(pairs_of((offset, size), rest=head))
+    for length in (0, size - 1, size + 1, 2**32 - 1, 2**32 - 12):
+        yield f"block 0 alone has length {length}, not {size}", given(pairs_of((12, length), rest=head))
+    for why, second in (("a gap", (21 + size, many - 1)), ("an overlap", (19 + size, many + 1)), ("length 0", (20 + size, 0)),
+                        ("one byte short of the end", (20 + size, many - 1)), ("one byte past the end", (20 + size, many + 1)),
+                        ("as it should be", (20 + size, many))):
+        yield f"the first cell's pair: {why}", given(pairs_of((20, size), second, rest=head + tail))
+    yield "pairs out of order", given(pairs_of((20 + size, many), (20, size), rest=head + tail))
+    yield "an offset and length that wrap around 2^32", given(pairs_of((20, 2**32 - 20), (0, size + many + 20), rest=head + tail))
+    yield "an empty cell between two", given(pairs_of((28, size), (28 + size, 0), (28 + size, many), rest=head + tail))
+    yield "an empty last cell", given(pairs_of((28, size), (28 + size, many), (28 + size + many, 0), rest=head + tail))
+    yield "a byte after the last cell", library(tail) + b"\0"
+    yield "a byte after block 0 alone", library() + b"\0"
+
+
+def library_front():
+    head = front()
+    yield "the empty library", library()
+    for end in cuts(head, form.library_head_form) + [len(head) - 2]:
+        yield f"block 0 cut after {end} bytes: 23, not 5", given(form.sheet_of_blocks([head[:end]]))
+    yield "a byte more in block 0", given(form.sheet_of_blocks([head + b"\0"]))
+    yield "a byte more in block 0, and a cell", given(form.sheet_of_blocks([head + b"\0", sheet()]))
+    yield "block 0 without the user unit, as a cell's head", given(form.sheet_of_blocks([blocks()[0], sheet()]))
+    yield "block 0 is a cell sheet", given(form.sheet_of_blocks([sheet(), sheet()]))
+    for n in (2, 4, 65535):
+        yield f"a name's length of {n}, not 3", given(form.sheet_of_blocks([struct.pack(">H", n) + head[2:]]))
+
+
+def library_stamps():
+    yield "a library dated", library(sheet(), stamps=DATE + DATE)
+    yield "a dated library, a dated cell", library(sheet(stamps=DATE + [1, 1, 1, 0, 0, 0]), stamps=[9999, 12, 31, 23, 59, 59] + DATE)
+    yield "a library's first stamp zero", library(sheet(), stamps=[0] * 6 + DATE)
+    yield "a library's second stamp zero", library(sheet(), stamps=DATE + [0] * 6)
+    yield "twelve numbers, one not zero", library(stamps=[0] * 11 + [1])
+    for why, stamp in (("year 0", [0, 1, 1, 0, 0, 0]), ("year 10000", [10000, 1, 1, 0, 0, 0]), ("month 13", [2023, 13, 1, 0, 0, 0]),
+                       ("day 0", [2023, 1, 0, 0, 0, 0]), ("31 April", [2023, 4, 31, 0, 0, 0]), ("29 February 1900", [1900, 2, 29, 0, 0, 0]),
+                       ("29 February 2000", [2000, 2, 29, 0, 0, 0]), ("hour 24", [2023, 1, 1, 24, 0, 0]),
+                       ("minute 60", [2023, 1, 1, 0, 60, 0])):
+        yield f"a library's first stamp, {why}", library(stamps=stamp + DATE)
+    yield "a library's second stamp, second 60", library(stamps=DATE + [2023, 1, 1, 0, 0, 60])
+    yield "a library's second stamp, 30 February", library(stamps=DATE + [2024, 2, 30, 0, 0, 0])
+
+
+EDGES = (5e-324, 2.0**-1022, 2.0**-261, math.nextafter(2.0**-260, 0), 2.0**-260, math.nextafter(2.0**-260, 1), 2.0**251,
+         math.nextafter(2.0**252, 0), 2.0**252, 1.7976931348623157e308)
+
+
+def library_units():
+    for user in (0.0, -0.0, -1.0, -5e-324, math.nan, UP, DOWN, *EDGES, 1.0, 1e-6, math.pi):
+        yield f"user unit {user!r}", library(user=user)
+    yield "user unit a NaN of another pattern", library(user=0xfff0000000000001)
+    for d in (*EDGES, 1e-9, 0.1):
+        yield f"a library, d {d!r}", library(d=d)
+    yield "a d that a cell takes, and no library", library(sheet(node([(whole(7, 5e-324), whole(0, 5e-324))])), d=5e-324)
+    yield "0.001 and 1e-9", library(sheet(), user=0.001, d=1e-9)
+    yield "neither user unit nor d is encodable", library(user=2.0**252, d=2.0**-261)
+
+
+def library_names():
+    for n in (0, 1, 2, 44, 45, 511, 1001):
+        yield f"a library name of {n} bytes", library(sheet(), name=b"n" * n)
+    for name in (b"\0", b"A\0", b"AB\0", b"\0\0", b"\0A", "größer".encode(), b"\xff\xfe\x80", b'" \\\n-.', bytes(range(256))):
+        yield f"a library name of bytes {name[:4].hex()}..", library(sheet(), name=name)
+    yield "a library and its cell of one name", library(sheet(name=b"LIB"))
+
+
+# ---- libraries: their cells
+
+
+FAULTS = ((5, BAD_FORM), (7, reference(name=b"-")), (8, node([])), (9, node(layer=256)), (10, text(b"t" * 513)), (11, reference(0, 1)),
+          (12, reference(2, 1)), (13, text(magnification=0.0)), (14, text(degrees=UP)), (15, array(sine=2.0)), (16, node([(whole(0, 0.0), whole(0))])),
+          (17, node([at(math.nan, 0)])), (18, OFF_GRID), (19, node([at(1e10, 0)])), (20, polygon(SQUARE[:3] + [at(1, 0)])))
+
+
+def library_faults():
+    for number, element in FAULTS:
+        yield f"{number} in cell 0, block 1", library(sheet(element), policy=3)
+        yield f"{number} in cell 2, block 3", library(sheet(), sheet(node()), sheet(node(), node(), element, node()), sheet(), policy=3)
+    for k in (0, 1, 3):
+        before, after = [sheet()] * k, [sheet()] * (3 - k)
+        yield f"cell {k} of one byte: 4, not 23", library(*before, NO_SHEET, *after)
+        yield f"cell {k} with no pair", library(*before, bytes(4), *after)
+        yield f"a byte after the blocks of cell {k}", library(*before, sheet() + b"\0", *after)
+        yield f"the head of cell {k} cut short", library(*before, form.sheet_of_blocks([blocks()[0][:-1]]), *after)
+        yield f"6 in the head of cell {k}", library(*before, sheet(stamps=LATE), *after)
+        yield f"7 in the head of cell {k}", library(*before, sheet(name=b""), *after)
+    yield "a cell that is a library sheet", library(library(sheet())[9:])
+
+
+def library_order():
+    yield "23 of the pairs before 6", given(form.sheet_of_blocks([front(stamps=LATE)]) + b"\0")
+    yield "23 of block 0 before 6", given(form.sheet_of_blocks([front(stamps=LATE) + b"\0"]))
+    yield "23 of block 0 before 24", given(form.sheet_of_blocks([front(user=0.0)[:-1]]))
+    yield "23 before 24 of d", given(b"", d=5e-324)
+    yield "23 of block 0 before a cell's 4", given(form.sheet_of_blocks([front() + b"\0", NO_SHEET]))
+    yield "6 before 24", library(stamps=LATE, user=0.0)
+    yield "6 before 24 of d", library(stamps=LATE, d=5e-324)
+    yield "6 before a cell's 4", library(NO_SHEET, stamps=LATE)
+    yield "24 before a cell's 4", library(NO_SHEET, user=math.nan)
+    yield "24 of d before a cell's 4", library(NO_SHEET, d=2.0**252)
+    yield "24 before a cell's 5", library(sheet(BAD_FORM), user=2.0**252)
+    yield "cell 0's 4 before cell 1's", library(NO_SHEET, NO_SHEET)
+    yield "cell 0's 9 in block 1 before cell 1's 4", library(sheet(node(layer=256)), NO_SHEET)
+    yield "cell 0's 18 in block 2 before cell 1's 6", library(sheet(node(), OFF_GRID), sheet(stamps=LATE), policy=3)
+    yield "cell 0's 20 before cell 1's 5", library(sheet(polygon(SQUARE[:3] + [at(1, 0)])), sheet(BAD_FORM))
+    yield "cell 1's 4 before cell 2's 9 in block 1", library(sheet(), NO_SHEET, sheet(node(layer=256)))
+    yield "cell 1's 5 in block 2 before its 9 in block 3", library(sheet(), sheet(node(), BAD_FORM, node(layer=256)))
+    yield "a cell's 4 before its head's 5", library(pairs_of((20, 1), (21, 2), rest=b"\0\0"))
+    yield "a cell's 5 of the head before its 6", library(form.sheet_of_blocks([form.head_bytes(b"A", LATE) + b"\0"]))
+    yield "a cell's 6 before its 7", library(sheet(name=b"", stamps=LATE))
+    yield "a cell's 7 before its block 1", library(sheet(BAD_FORM, name=b""))
+    yield "a cell's 5 in its head is block 0 of that cell", library(sheet(), form.sheet_of_blocks([b"\0"]))
+
+
+def off(*values, name=b"A"):
+    """A cell of nodes, each off the grid by a value."""
+    return sheet(*[node([at(value, 0)]) for value in values], name=name)
+
+
+def library_reports():
+    for policy, name in enumerate(POLICIES):
+        yield f"entries of cells 0 and 2, {name}", library(off(0.25, 3.0, 0.5), sheet(node()), off(1.25), policy=policy)
+        yield f"a step from the grid, {name}", library(off(3 + 2.0**-51), off(3 + 2.0**-50), policy=policy)
+    yield "strict, and an endpoint drifts in cell 1", library(
+        sheet(), sheet(array(11, 1, column=(real(0.011, 1e-6), real(0.0, 1e-6)), row=GONE)), policy=3, d=1e-9)
+    yield "the greatest error in the first cell", library(off(0.5), off(0.25), off(0.125))
+    yield "the greatest error in the middle cell", library(off(0.125), off(0.25, 0.5, 0.25), off(0.375))
+    yield "the greatest error in the last cell", library(off(0.125), off(0.25), sheet(), off(0.25, 0.5))
+    yield "equal errors in all cells", library(off(0.5, -0.5), off(0.5), off(1.5, 2.5))
+    yield "no entry in any cell", library(sheet(node()), sheet(polygon()), sheet(text()))
+    yield "an entry of the last element of the last cell alone", library(sheet(node()), sheet(node(), node(), OFF_GRID))
+    yield "cells with and without entries in turn", library(*[off(0.25 if k % 2 else 1.0) for k in range(9)])
+    yield "document 01's array in cell 1", library(sheet(name=b"B"), sheet(array(4, 1, origin=at(0.5, 0.0), column=at(10.5, 0.0), row=GONE)))
+    yield "an entry of every kind, in five cells", library(*[sheet(element) for element in (
+        polygon([at(0.5, 0)] + SQUARE[1:3] + [at(0.5, 0)]), path(width=real(2.5)), text(origin=at(0, 0.25)), OFF_GRID, array(column=at(0.5, 0)))])
+
+
+def library_calls():
+    yield "two cells of one name", library(sheet(node()), sheet(polygon()))
+    yield "three of one name, all alike", library(sheet(), sheet(), sheet())
+    yield "names that are not in order", library(sheet(name=b"C"), sheet(name=b"A"), sheet(name=b"b"), sheet(name=b"B"))
+    yield "a cell that calls the one before it, in an array", library(sheet(polygon(), name=b"B"), sheet(array(3, 2)))
+    yield "a cell that calls the one after it", library(sheet(reference()), sheet(polygon(), name=b"B"))
+    yield "a cell that calls itself", library(sheet(reference(name=b"A")))
+    yield "a cell that calls none that is there", library(sheet(reference(name=b"NOT_HERE")))
+
+
+def library_many():
+    yield "257 cells, an entry in the last", library(*[sheet()] * 256, off(0.5))
+    yield "443 entries: 22", library(off(*[0.5] * 200), off(*[0.5] * 243))
+
+
+def library_mixed():
+    r = random.Random(1978)
+    for k in range(16):
+        cells = [sheet(*[any_element(r) for _ in range(r.randrange(3))], name=b"MIX_%d" % c, stamps=r.choice((ZERO, DATE + DATE)))
+                 for c in range(r.randrange(1, 4))]
+        yield f"a mixed library, {POLICIES[k % 3]}", library(*cells, policy=k % 3, d=1e-9, user=1e-6, name=r.randbytes(r.randrange(9)))
+
+
 GROUPS = (caller, pairs, lengths, codes, coordinates, stamps, names, counts, layers, strings, grids, transforms, turns, units, finite,
           rounding, competing, ends, report, arrays, buffers, mixed)
 
 
-def main():
-    form.end_with_the_pipe()
-    number = 0
+LIBRARY_GROUPS = (library_caller, library_pairs, library_front, library_stamps, library_units, library_names, library_faults,
+                  library_order, library_reports, library_calls, library_many, library_mixed)
+
+
+def cases():
+    """(reason, the words between a case's name and its input, input, the answer's lines) of every case."""
     for group in GROUPS:
         for reason, data in group():
-            print(f"# {reason}")
-            print(f"own-{number:04d} {data.hex() or '-'} {'|'.join(model.answer(data))}")
-            number += 1
+            yield reason, "", data, model.answer(data)
+    for group in LIBRARY_GROUPS:
+        for reason, data in group():
+            yield reason, f"{model.LIBRARY} ", data, model.library_answer(data)
+
+
+def main():
+    form.end_with_the_pipe()
+    for number, (reason, job, data, lines) in enumerate(cases()):
+        print(f"# {reason}")
+        print(f"own-{number:04d} {job}{data.hex() or '-'} {'|'.join(lines)}")
 
 
 if __name__ == "__main__":

@@ -3,24 +3,28 @@
 
     pack_cases.py [-o PACK] CASES [CASES ...]
 
-A file of cases is text, one case to a line: a name, the input of the program `structure` in hex (`-` if empty), and the
-lines that it prints, joined by `|`. A line that starts with `#` is a comment. Cases of the files follow one another.
+A file of cases is text, one case to a line: a name, `library` for a library (a cell's job, `cell`, may be missing), the
+input in hex (`-` if empty), and the lines of the answer, joined by `|`. A cell's are what the program `structure` prints;
+a library's are alike, but a refusal has the cell before the block, an entry has 37 bytes, and the buffers have 65,536 and
+16,384 bytes. A line that starts with `#` is a comment. Cases of the files follow one another.
 
 The pack, numbers with the highest byte first; for each case:
 
+    1  0 for a cell, 1 for a library
     4  n, the length of the input
     n  the input: policy byte, d in 8 bytes, sheet
     4  m, the length of the answer
     m  the answer, whose first byte is 0 where refused and 1 where accepted, then
   refused:
     1  number
+    4  the cell, of a library alone
     4  block
   accepted:
-    4  k, the structure's length
+    4  k, the structure's or the file's length
     4  e, the entry count
     8  the greatest error's bits
-    k  the structure
-  33e  the entries
+    k  the structure or the file
+  33e  the entries; of a library 37e
 
 Inputs under 9 bytes or with a sheet over 24,576 bytes get no answer from the program: they are left out and counted.
 """
@@ -28,45 +32,48 @@ import argparse
 import struct
 import sys
 
+from model import CELL, LIBRARY, case_of
 from sheet import plain
 
-SHORTEST, LONGEST_SHEET, ENTRY = 9, 24576, 33
+SHORTEST, LONGEST_SHEET = 9, 24576
+TAGS = {CELL: 0, LIBRARY: 1}
+ENTRY = {CELL: 33, LIBRARY: 37}
+PLACES = {CELL: ("a block", ">BBI"), LIBRARY: ("a cell and a block", ">BBII")}
 
 
 class Bad(Exception):
     pass
 
 
-def refused_bytes(fields, lines):
-    if len(fields) != 3 or len(lines) != 1:
-        raise Bad("`no` wants a number and a block, and no further line")
-    return struct.pack(">BBI", 0, int(fields[1]), int(fields[2]))
+def refused_bytes(job, fields, lines):
+    words, layout = PLACES[job]
+    if len(fields) != len(layout) - 1 or len(lines) != 1:
+        raise Bad(f"`no` of a {job} wants a number, {words}, and no further line")
+    return struct.pack(layout, 0, *map(int, fields[1:]))
 
 
-def accepted_bytes(fields, lines):
+def accepted_bytes(job, fields, lines):
     if len(fields) != 4 or len(lines) < 2:
         raise Bad("`ok` wants a length, an entry count and error bits, then the stream")
     length, count, greatest = int(fields[1]), int(fields[2]), int(fields[3], 16)
     stream, entries = bytes.fromhex(lines[1]), [bytes.fromhex(e) for e in lines[2:]]
-    if len(stream) != length or len(entries) != count or any(len(e) != ENTRY for e in entries):
+    if len(stream) != length or len(entries) != count or any(len(e) != ENTRY[job] for e in entries):
         raise Bad("the stream or the entries are not as long as the first line says")
     return struct.pack(">BIIQ", 1, length, count, greatest) + stream + b"".join(entries)
 
 
 def packed(line):
     """The bytes of a case, or None where the program gives no answer."""
-    fields = line.split(" ", 2)
-    if len(fields) != 3:
-        raise Bad("a case is a name, an input and an answer")
-    given = b"" if fields[1] == "-" else bytes.fromhex(fields[1])
+    _, job, given, printed = case_of(line)
+    given = b"" if given == "-" else bytes.fromhex(given)
     if len(given) < SHORTEST or len(given) - SHORTEST > LONGEST_SHEET:
         return None
-    lines = fields[2].split("|")
+    lines = printed.split("|")
     first = lines[0].split(" ")
     if first[0] not in ("ok", "no"):
         raise Bad(f"an answer starts with `ok` or `no`, not `{first[0]}`")
-    known = (accepted_bytes if first[0] == "ok" else refused_bytes)(first, lines)
-    return struct.pack(">I", len(given)) + given + struct.pack(">I", len(known)) + known
+    known = (accepted_bytes if first[0] == "ok" else refused_bytes)(job, first, lines)
+    return struct.pack(">BI", TAGS[job], len(given)) + given + struct.pack(">I", len(known)) + known
 
 
 def pack(path):

@@ -1,7 +1,8 @@
-"""The cell sheet of document 01 ("Input"): its form, read and written. A convenience, outside the proof.
+"""The cell sheet of document 01 ("Input") and the library sheet of document 02, request 1: their form, read and written. A convenience, outside the proof.
 
-A cell is a name, twelve stamp numbers and elements. Doubles are kept as 64-bit patterns, so that a NaN keeps its bits
-and a sheet that is read and written again is the same bytes. Reading raises Ill with the byte where the form fails.
+A cell is a name, twelve stamp numbers and elements; a library is a name, a user unit, twelve stamp numbers and cells.
+Doubles are kept as 64-bit patterns, so that a NaN keeps its bits and a sheet that is read and written again is the same
+bytes. Reading raises Ill with the byte where the form fails.
 """
 import signal
 import struct
@@ -12,6 +13,7 @@ POLYGON, PATH, TEXT, NODE, REFERENCE = range(1, 6)
 NO_PATH_TYPE = 255
 MAX_PAIRS = 16384
 
+Library = namedtuple("Library", "name unit stamps cells")
 Cell = namedtuple("Cell", "name stamps elements")
 Coordinate = namedtuple("Coordinate", "kind value unit")
 Property = namedtuple("Property", "attribute value")
@@ -24,11 +26,11 @@ NOTHING = Coordinate(ABSENT, 0, 0)
 
 
 class Ill(Exception):
-    """The form fails: at which byte, and why. `pairs` is true where the fault is in the pairs (refusal 4, else 5)."""
+    """The form fails: at which byte, and why. `pairs` is true where the fault is in the pairs (a cell's refusal 4, else 5)."""
 
     def __init__(self, at, why, block=0, pairs=False):
         super().__init__(f"byte {at}: {why}")
-        self.at, self.block, self.pairs = at, block, pairs
+        self.at, self.why, self.block, self.pairs = at, why, block, pairs
 
 
 def bits_of(x):
@@ -126,9 +128,16 @@ class Reader:
         return found
 
 
+def stamps_form(r):
+    return [r.number(2, "a stamp number") for _ in range(12)]
+
+
 def head_form(r):
-    name = r.string("the cell's name")
-    return name, [r.number(2, "a stamp number") for _ in range(12)]
+    return r.string("the cell's name"), stamps_form(r)
+
+
+def library_head_form(r):
+    return r.string("the library's name"), r.double("the user unit"), stamps_form(r)
 
 
 def shape_form(r, kind):
@@ -158,7 +167,7 @@ FORMS = {POLYGON: shape_form, PATH: path_form, TEXT: text_form, NODE: shape_form
 
 
 def read_pairs(sheet):
-    """(offset, length) of each block; refusal 4 where they are ill-formed."""
+    """(offset, length) of each block of a sheet; refusal 4 where they are ill-formed, of a library's sheet 23."""
     if len(sheet) < 4:
         raise Ill(len(sheet), "the sheet is too short for its pair count", pairs=True)
     n = int.from_bytes(sheet[:4], "big")
@@ -195,6 +204,26 @@ def read_sheet(sheet):
     return Cell(name, stamps, [read_element(sheet, pair, k + 1) for k, pair in enumerate(pairs[1:])])
 
 
+def read_library_head(sheet, pair):
+    """(name, the user unit's bits, stamps)"""
+    r = Reader(sheet, pair[0], sum(pair), 0)
+    return r.done(library_head_form(r))
+
+
+def read_cell_of(sheet, pair, number):
+    """A cell of a library sheet; a fault's byte is counted from the library sheet's first."""
+    try:
+        return read_sheet(sheet[pair[0]:sum(pair)])
+    except Ill as ill:
+        raise Ill(pair[0] + ill.at, f"{ill.why}, in cell {number}", ill.block, ill.pairs) from None
+
+
+def read_library(sheet):
+    pairs = read_pairs(sheet)
+    name, unit, stamps = read_library_head(sheet, pairs[0])
+    return Library(name, unit, stamps, [read_cell_of(sheet, pair, k) for k, pair in enumerate(pairs[1:])])
+
+
 # ---- writing
 
 
@@ -221,6 +250,10 @@ def properties_bytes(properties):
 
 def head_bytes(name, stamps):
     return string_bytes(name) + struct.pack(">12H", *stamps)
+
+
+def library_head_bytes(name, unit, stamps):
+    return string_bytes(name) + struct.pack(">Q12H", unit, *stamps)
 
 
 def body_bytes(e):
@@ -251,3 +284,7 @@ def sheet_of_blocks(blocks):
 
 def sheet_bytes(cell):
     return sheet_of_blocks([head_bytes(cell.name, cell.stamps)] + [element_bytes(e) for e in cell.elements])
+
+
+def library_bytes(library):
+    return sheet_of_blocks([library_head_bytes(library.name, library.unit, library.stamps)] + [sheet_bytes(c) for c in library.cells])
