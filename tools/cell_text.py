@@ -229,14 +229,19 @@ class Element:
         return (form.Path if self.word == "path" else form.Shape)(**fields, points=self.points)
 
 
+def stamp_numbers(tokens):
+    if tokens[1:] == ["zero"]:
+        return [0] * 12
+    arity(tokens, 12)
+    return [number(t, 0, 65535, "a stamp number") for t in tokens[1:]]
+
+
 class CellReader:
     def __init__(self):
         self.name, self.stamps, self.elements = None, None, []
 
     def take(self, tokens, line):
         word = tokens[0]
-        if isinstance(word, bytes):
-            raise Wrong("a line starts with a word, not with a string")
         if (self.name is None) != (word == "cell"):
             raise Wrong("the first line is `cell`" if self.name is None else "a second `cell`")
         if word == "cell":
@@ -256,26 +261,34 @@ class CellReader:
     def take_stamps(self, tokens):
         if self.stamps is not None or self.elements:
             raise Wrong("`stamps` stands once, before the first element")
-        if tokens[1:] == ["zero"]:
-            self.stamps = [0] * 12
-        else:
-            arity(tokens, 12)
-            self.stamps = [number(t, 0, 65535, "a stamp number") for t in tokens[1:]]
+        self.stamps = stamp_numbers(tokens)
+
+    def made(self):
+        return form.Cell(self.name, self.stamps or [0] * 12, [e.made() for e in self.elements])
 
 
-def read_cell(text):
-    """The cell of a text; Bad with the line where it fails."""
-    reader, line = CellReader(), 1
+def read_lines(text, reader):
+    """Hands a reader the pieces of each line, with its number; Bad where it takes one for Wrong. The last line's number."""
+    line = 1
     for line, content in enumerate(text.split("\n"), 1):
         try:
             tokens = pieces(content)
+            if tokens and isinstance(tokens[0], bytes):
+                raise Wrong("a line starts with a word, not with a string")
             if tokens:
                 reader.take(tokens, line)
         except Wrong as wrong:
             raise Bad(line, str(wrong)) from None
+    return line
+
+
+def read_cell(text):
+    """The cell of a text; Bad with the line where it fails."""
+    reader = CellReader()
+    line = read_lines(text, reader)
     if reader.name is None:
         raise Bad(line, "there is no `cell` line")
-    return form.Cell(reader.name, reader.stamps or [0] * 12, [e.made() for e in reader.elements])
+    return reader.made()
 
 
 # ---- writing lines
@@ -321,9 +334,13 @@ def element_lines(e):
         yield f"  property {p.attribute} {quoted(p.value)}"
 
 
+def stamps_line(stamps):
+    return "stamps " + (" ".join(map(str, stamps)) if any(stamps) else "zero")
+
+
 def cell_lines(cell):
     """The lines of a cell's text."""
     yield f"cell {quoted(cell.name)}"
-    yield "stamps " + (" ".join(map(str, cell.stamps)) if any(cell.stamps) else "zero")
+    yield stamps_line(cell.stamps)
     for e in cell.elements:
         yield from element_lines(e)

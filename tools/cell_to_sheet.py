@@ -14,7 +14,7 @@ import struct
 import sys
 
 import cell_text
-from sheet import end_with_the_pipe, plain, sheet_bytes
+from sheet import end_with_the_pipe, plain, read_input, sheet_bytes, write_whole
 
 POLICIES = {"nearest": 0, "floor": 1, "ceiling": 2, "strict": 3}
 MAX_SHEET = 2**32 - 1
@@ -33,10 +33,8 @@ def decoded(data, name):
 
 
 def read_text(path):
-    if path == "-":
-        return decoded(sys.stdin.buffer.read(), "standard input"), "standard input"
-    with open(path, "rb") as f:
-        return decoded(f.read(), path), path
+    name = "standard input" if path == "-" else path
+    return decoded(read_input(path), name), name
 
 
 def front(policy, unit):
@@ -52,39 +50,42 @@ def front(policy, unit):
         raise Fault(str(wrong)) from None
 
 
-def made(given):
-    text, name = read_text(given.cell)
-    before = front(given.policy, given.unit)
+def sheet_from(path, sheet_of):
+    """The sheet of a text in a file."""
+    text, name = read_text(path)
     try:
-        data = sheet_bytes(cell_text.read_cell(text))
+        return sheet_of(text)
     except cell_text.Bad as bad:
         raise Fault(f"{name}, {bad}") from None
     except struct.error:
         raise Fault(f"{name}: the sheet is over {MAX_SHEET:,} bytes") from None
-    data = before + data
+
+
+def made(given, sheet_of):
+    data = front(given.policy, given.unit) + sheet_from(given.text, sheet_of)
     return data.hex().encode() + b"\n" if given.hex else data
 
 
-def main():
+def run(tool, what, sheet_of):
+    """The command: `what` a text describes, and what makes a sheet of it."""
     end_with_the_pipe()
-    arguments = argparse.ArgumentParser(description="Turns the text form of a cell into a cell sheet.")
-    arguments.add_argument("cell", nargs="?", default="-", metavar="CELL", help="the text; missing or -: standard input")
+    arguments = argparse.ArgumentParser(description=f"Turns the text form of a {what} into a {what} sheet.")
+    arguments.add_argument("text", nargs="?", default="-", metavar=what.upper(), help="the text; missing or -: standard input")
     arguments.add_argument("--policy", metavar="P", help="nearest, floor, ceiling, strict or a number")
     arguments.add_argument("--unit", metavar="D", help="the database unit")
     arguments.add_argument("--hex", action="store_true", help="write hex digits")
     arguments.add_argument("-o", metavar="FILE", help="where to write; else to standard output")
     given = arguments.parse_args()
     try:
-        data = made(given)
+        data = made(given, sheet_of)
         if given.o:
-            with open(given.o, "wb") as out:
-                out.write(data)
+            write_whole(given.o, data)
         else:
             sys.stdout.buffer.write(data)
             sys.stdout.buffer.flush()
     except (Fault, OSError) as fault:
-        sys.exit(f"cell_to_sheet.py: {plain(fault)}")
+        sys.exit(f"{tool}: {plain(fault)}")
 
 
 if __name__ == "__main__":
-    main()
+    run("cell_to_sheet.py", "cell", lambda text: sheet_bytes(cell_text.read_cell(text)))

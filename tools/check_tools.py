@@ -98,7 +98,7 @@ def cut_short(name, stream, count):
     for end in range(0, len(stream), max(1, len(stream) // 40)):
         count.damaged += 1
         try:
-            stream_to_text.Walk(stream[:end], lambda line: None).structure()
+            stream_to_text.Walk(stream[:end], lambda line: None).whole()
             count.fail(f"{name}: nothing said of a stream cut after {end} bytes")
         except stream_to_text.Damage as damage:
             if not str(damage).startswith("byte "):

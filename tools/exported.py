@@ -9,7 +9,8 @@ import subprocess
 TARGET = os.path.join(os.path.dirname(os.path.dirname(os.path.abspath(__file__))), "target", "staticlib")
 ARCHIVE = os.path.join(TARGET, "libexports.a")
 SHARED = os.path.join(TARGET, "libexports.so")
-FUNCTIONS = ("ravenvanity_convert_bounds", "ravenvanity_survey_pitch")
+FUNCTIONS = ("ravenvanity_convert_bounds", "ravenvanity_survey_pitch", "ravenvanity_measure_library", "ravenvanity_write_library")
+LIBRARY_ENTRY = 37
 
 
 class Missing(Exception):
@@ -65,3 +66,38 @@ def survey_pitch(library, policy, d, pitch, n):
     counts = [ctypes.c_uint32() for _ in range(3)]
     number = function(*map(ctypes.byref, counts), policy, d, pitch, n)
     return number, *(count.value for count in counts)
+
+
+class LibraryAnswer:
+    """Where a library's answer goes: cell and block of a refusal; the file's length, the entry count and the greatest error."""
+    TYPES = [ctypes.POINTER(ctypes.c_size_t)] * 4 + [ctypes.POINTER(ctypes.c_double)]
+
+    def __init__(self):
+        self.places = [ctypes.c_size_t() for _ in range(4)] + [ctypes.c_double()]
+
+    def lent(self):
+        return map(ctypes.byref, self.places)
+
+    def values(self):
+        return tuple(place.value for place in self.places)
+
+
+def measure_library(library, policy, d, sheet):
+    """(0, 0, 0, length, entries, greatest error), or (the refusal's number, cell, block, ...)"""
+    function = library.ravenvanity_measure_library
+    function.restype = ctypes.c_uint8
+    function.argtypes = [ctypes.c_char_p, ctypes.c_size_t, *LibraryAnswer.TYPES, ctypes.c_uint8, ctypes.c_double]
+    answer = LibraryAnswer()
+    number = function(sheet, len(sheet), *answer.lent(), policy, d)
+    return number, *answer.values()
+
+
+def write_library(library, policy, d, sheet, lengths):
+    """(the same values, file, report), in buffers of these two lengths"""
+    function = library.ravenvanity_write_library
+    function.restype = ctypes.c_uint8
+    function.argtypes = [ctypes.c_char_p, ctypes.c_size_t] * 3 + [*LibraryAnswer.TYPES, ctypes.c_uint8, ctypes.c_double]
+    answer, buffers = LibraryAnswer(), [ctypes.create_string_buffer(length) for length in lengths]
+    lent = [part for buffer in buffers for part in (buffer, len(buffer))]
+    number = function(sheet, len(sheet), *lent, *answer.lent(), policy, d)
+    return (number, *answer.values()), *(buffer.raw for buffer in buffers)

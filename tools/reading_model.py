@@ -92,8 +92,7 @@ def limit(kind, name, data, place):
     if name in KINDS:
         need(place < MOST_ELEMENTS, 4)
     elif name == "BGNSTR":
-        stamps = struct.unpack(">12H", data)
-        need(not any(stamps) or model.is_date(*stamps[:6]) and model.is_date(*stamps[6:]), 6)
+        need(model.stamped(struct.unpack(">12H", data)), 6)
     elif name in ("STRNAME", "SNAME"):
         need(model.is_name(dropped(data)), 7)
     elif name in ("LAYER", "DATATYPE", "NODETYPE"):

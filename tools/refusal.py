@@ -1,8 +1,9 @@
 #!/usr/bin/env python3
-"""Says what a refusal means: number and block, as the program `structure` prints them; 32 is of bounds.py, 33 of survey.py. A convenience, outside the proof.
+"""Says what a refusal means: number and block, as the program `structure` prints them, or number, cell and block of a library; 32 is of bounds.py, 33 of survey.py. A convenience, outside the proof.
 
-    refusal.py NUMBER [BLOCK]     a few lines about one
-    refusal.py                    the whole table
+    refusal.py NUMBER [BLOCK]         a few lines about one
+    refusal.py NUMBER CELL BLOCK      of a library; CELL is 4294967295 outside a cell
+    refusal.py                        the whole table
 """
 import sys
 
@@ -13,6 +14,7 @@ FIRST, LAST = "before anything else", "after every block has passed"
 
 # number: who can cause it, what it means, where it comes in the order, which blocks it can name
 ONCE, HEAD, ANY, ELEMENT, NO_CELL = "0", "0", "0 or more", "1 or more", "none"
+OUTSIDE = 4294967295  # the cell's number where a library's refusal is of no cell
 TABLE = {
     1: (CALLER, "the policy is above 3", FIRST, ONCE),
     2: (CALLER, "the database unit d is not finite and positive", "after 1", ONCE),
@@ -41,20 +43,46 @@ TABLE = {
     19: (DESIGNER, "a database value is beyond signed 32 bits", "coordinate by coordinate, after 18; array endpoints last", ELEMENT),
     20: (DESIGNER, "a polygon's first and last point differ after conversion", "after all points have been converted", ELEMENT),
     21: (CALLER, "the output is too short for the structure (the program's has 16,384 bytes)", LAST, ONCE),
-    22: (CALLER, "the report is too short for the entries, 33 bytes each (the program's has 8,192 bytes)", "after 21", ONCE),
+    22: (CALLER, "the report is too short for the entries, 33 bytes each, of a library 37 (the program's has 8,192 bytes)", "after 21", ONCE),
+    23: (SHEET_MAKER, "the library's pairs are ill-formed, as a cell's in 4, or its block 0 is not a name, a user unit and twelve stamp numbers and no byte more",
+         "of a library alone: after 3; all pairs before block 0", ONCE),
+    24: (f"{DESIGNER}, for d {CALLER}", "the user unit is not finite and positive, or no eight-byte real equals it or d: below 2^-260, or from 2^252",
+         "of a library alone: after 6 of the library's stamps", ONCE),
+    25: (DESIGNER, "the library's name is over 65,530 bytes", "of a library alone: after 24, before every cell", ONCE),
     32: (CALLER, "the lower end is above the upper, or the policy is strict and the ends are not equal",
          "of two bounds alone: after 17 of an end that is not finite, before the ends' other checks", NO_CELL),
     33: (CALLER, "the number of places is not 1 to 65,536", "of a pitch survey alone: after 2, before 17 of a pitch that is not finite", NO_CELL),
 }
 
 
+OF_LIBRARY = (1, 2, 3, 6, 21, 22, 23, 24, 25)  # those that come outside a cell
+OF_CELL = range(4, 21)
+LIBRARY_ORDER = {4: "first in its cell, which comes after 25 and after the whole of every cell before it", 21: "after every cell has passed"}
+
+
 def block_words(block):
     return "block 0 is the head, or no block at all" if block == 0 else f"block {block} is element {block - 1}, counted from 0"
+
+
+def about_library(number, cell, block):
+    """A library's refusal: its cell and its block."""
+    who, meaning, order, blocks = TABLE[number]
+    if cell == OUTSIDE:
+        order = "in a library after 23" if number == 6 else LIBRARY_ORDER.get(number, order)
+        where, right = "outside a cell, so of the call or of the library itself", number in OF_LIBRARY and block == 0
+    else:
+        order = LIBRARY_ORDER.get(number, order)
+        where, right = f"in cell {cell}, counted from 0, which is block {cell + 1} of the library sheet; {block_words(block)}", number in OF_CELL
+        right = right and (block == 0 if blocks == "0" else blocks == ANY or block > 0)
+    lines = [f"refusal {number}: {meaning}", f"caused by: {who}", f"order: {order}", "both buffers stay as they were", where]
+    return lines if right else lines + [f"but refusal {number} does not come with this cell and block: was this read rightly?"]
 
 
 def about(number, block=None):
     who, meaning, order, blocks = TABLE[number]
     lines = [f"refusal {number}: {meaning}", f"caused by: {who}", f"order: {order}"]
+    if 23 <= number <= 25 and block is not None:
+        lines.append(f"but refusal {number} is of a library, and comes with a cell and a block: was this read rightly?")
     if blocks == NO_CELL:
         return lines + ([f"but refusal {number} is of no cell, and comes with no block: was this read rightly?"] if block is not None else [])
     lines.append("both buffers stay as they were")
@@ -79,13 +107,14 @@ def main():
     elif not given:
         for number, (who, meaning, order, _) in TABLE.items():
             print(f"{number:2}  {who}: {meaning}. Order: {order}.")
-    elif len(given) > 2:
-        sys.exit("refusal.py: a number, and a block if there is one")
+    elif len(given) > 3:
+        sys.exit("refusal.py: a number, a block if there is one, and before it the cell of a library")
     else:
         number = whole_number(given[0], "a refusal")
         if number not in TABLE:
-            sys.exit(f"refusal.py: there is no refusal {number}; they run from 1 to 22, then 32 and 33")
-        print("\n".join(about(number, whole_number(given[1], "a block") if len(given) == 2 else None)))
+            sys.exit(f"refusal.py: there is no refusal {number}; they run from 1 to 25, then 32 and 33")
+        places = [whole_number(text, "a block" if k else "a cell or a block") for k, text in enumerate(given[1:])]
+        print("\n".join(about_library(number, *places) if len(places) == 2 else about(number, *places)))
 
 
 if __name__ == "__main__":

@@ -4,8 +4,10 @@ A cell is a name, twelve stamp numbers and elements; a library is a name, a user
 Doubles are kept as 64-bit patterns, so that a NaN keeps its bits and a sheet that is read and written again is the same
 bytes. Reading raises Ill with the byte where the form fails.
 """
+import os
 import signal
 import struct
+import sys
 from collections import namedtuple
 
 INTEGER, DOUBLE, ABSENT = range(3)
@@ -51,6 +53,33 @@ def plain(fault):
 def end_with_the_pipe():
     """A reader that stops, such as `head`, ends the tool without a message."""
     signal.signal(signal.SIGPIPE, signal.SIG_DFL)
+
+
+def read_input(path):
+    """A file's bytes; `-` is standard input."""
+    if path == "-":
+        return sys.stdin.buffer.read()
+    with open(path, "rb") as f:
+        return f.read()
+
+
+def write_whole(path, data):
+    """Writes a file whole or not at all; what is no file, a terminal for one, is written to as it is."""
+    if os.path.exists(path) and not os.path.isfile(path):
+        with open(path, "wb") as out:
+            out.write(data)
+        return
+    target = os.path.realpath(path)
+    made = f"{target}.{os.getpid()}"
+    try:
+        with open(made, "wb") as out:
+            out.write(data)
+        os.replace(made, target)
+    except OSError as fault:
+        raise OSError(fault.errno, fault.strerror, path) from None
+    finally:
+        if os.path.exists(made):
+            os.remove(made)
 
 
 # ---- reading

@@ -21,11 +21,7 @@ class Fault(Exception):
 
 
 def read_bytes(path, is_hex):
-    if path == "-":
-        data = sys.stdin.buffer.read()
-    else:
-        with open(path, "rb") as f:
-            data = f.read()
+    data = form.read_input(path)
     if not is_hex:
         return data
     try:
@@ -34,29 +30,30 @@ def read_bytes(path, is_hex):
         raise Fault("the input is not hex digits in pairs") from None
 
 
-def lines(data, program):
+def lines(data, program, lines_of):
     if program:
         if len(data) < 9:
             raise Fault(f"the program's input has at least 9 bytes, not {len(data)}")
         policy = POLICIES[data[0]] if data[0] < 4 else "unknown"
         yield f"# policy {data[0]} ({policy}), unit {cell_text.double_text(int.from_bytes(data[1:9], 'big'))}"
         data = data[9:]
-    yield from cell_text.cell_lines(form.read_sheet(data))
+    yield from lines_of(data)
 
 
-def main():
+def run(tool, what, lines_of):
+    """The command: `what` a sheet describes, and what makes lines of it."""
     form.end_with_the_pipe()
-    arguments = argparse.ArgumentParser(description="Turns a cell sheet into the text form of its cell.")
+    arguments = argparse.ArgumentParser(description=f"Turns a {what} sheet into the text form of its {what}.")
     arguments.add_argument("sheet", nargs="?", default="-", metavar="SHEET", help="the sheet; missing or -: standard input")
     arguments.add_argument("--program", action="store_true", help="policy and unit stand before the sheet")
     arguments.add_argument("--hex", action="store_true", help="the input is hex digits")
     given = arguments.parse_args()
     try:
-        text = "\n".join(lines(read_bytes(given.sheet, given.hex), given.program))
+        text = "\n".join(lines(read_bytes(given.sheet, given.hex), given.program, lines_of))
         print(text, flush=True)
     except (Fault, form.Ill, OSError) as fault:
-        sys.exit(f"sheet_to_cell.py: {form.plain(fault)}")
+        sys.exit(f"{tool}: {form.plain(fault)}")
 
 
 if __name__ == "__main__":
-    main()
+    run("sheet_to_cell.py", "cell", lambda data: cell_text.cell_lines(form.read_sheet(data)))

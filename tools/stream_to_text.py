@@ -1,15 +1,18 @@
 #!/usr/bin/env python3
-"""Turns a GDSII structure, and report entries, into readable text. A convenience, outside the proof.
+"""Turns a GDSII structure or library file, and report entries, into readable text. A convenience, outside the proof.
 
-    stream_to_text.py [--report] [INPUT]
+    stream_to_text.py [--report | --library-report FILE] [INPUT]
 
-INPUT is a file; missing or `-`, it is standard input. It holds a structure as bytes, a structure as hex digits, or the
-lines that the program `structure` prints; which of the three, its first bytes show. With `--report` it holds report
-entries of 33 bytes, as bytes or as hex digits.
+INPUT is a file; missing or `-`, it is standard input. It holds a structure or a whole library file, as bytes or as hex
+digits, or the lines that the program `structure` prints, or a stored library's; which of these, its first bytes show.
+With `--report` it holds report entries of 33 bytes, as bytes or as hex digits. With `--library-report FILE` it holds a
+library file, and FILE its report, entries of 37 bytes: these follow in words, with the cell's number and name.
 
-A structure is read by the grammar of document 01 ("What a structure draws"). Each record gets a line: the byte where it
-starts, its name, and what it holds. Eight-byte reals are written as exact decimals. Damaged input gets a message with
-the byte, after the lines of the records before it, and exit status 1.
+A structure is read by the grammar of document 01 ("What a structure draws"); a library file is HEADER, BGNLIB, LIBNAME,
+UNITS, structures, ENDLIB. Each record gets a line: the byte where it starts, its name, and what it holds. Eight-byte
+reals are written as exact decimals, long ones of UNITS as the shortest decimal of the double. Damaged input gets a
+message with the byte, after the lines of the records before it, and exit status 1. Zero bytes after ENDLIB are no
+damage: a line says how many.
 """
 import argparse
 import re
@@ -19,7 +22,7 @@ import sys
 from fractions import Fraction
 
 from cell_text import quoted
-from sheet import end_with_the_pipe, plain
+from sheet import end_with_the_pipe, plain, read_input
 
 # code: name, data type, size of the data (None: any even number; -8: any multiple of 8)
 RECORDS = {
@@ -30,6 +33,9 @@ RECORDS = {
     0x1b: ("MAG", 5, 8), 0x1c: ("ANGLE", 5, 8), 0x21: ("PATHTYPE", 2, 2), 0x2a: ("NODETYPE", 2, 2), 0x2b: ("PROPATTR", 2, 2),
     0x2c: ("PROPVALUE", 6, None), 0x30: ("BGNEXTN", 3, 4), 0x31: ("ENDEXTN", 3, 4),
 }
+# those that stand in a library file beside its structures'
+LIBRARY_RECORDS = {0x00: ("HEADER", 2, 2), 0x01: ("BGNLIB", 2, 24), 0x02: ("LIBNAME", 6, None), 0x03: ("UNITS", 5, 16), 0x04: ("ENDLIB", 0, 0)}
+HEADER = 0x00
 TRANSFORM = ["STRANS?", "MAG?", "ANGLE?"]
 # the records of each element, `?` where one may be missing; properties and ENDEL follow
 ELEMENTS = {
@@ -45,7 +51,7 @@ KINDS = {1: "polygon", 2: "path", 3: "text", 4: "node", 5: "reference"}
 FIELDS = ("point", "width", "begin extension", "end extension", "origin", "turned column spacing", "turned row spacing",
           "column endpoint", "row endpoint")
 AXES = ("x", "y", "")
-ENTRY = 33
+ENTRY, LIBRARY_ENTRY = 33, 37
 
 
 class Damage(Exception):
@@ -68,6 +74,13 @@ def real8(data):
     """What an eight-byte real is worth."""
     size = Fraction(int.from_bytes(data[1:], "big"), 2**56) * Fraction(16) ** ((data[0] & 127) - 64)
     return -size if data[0] & 128 else size
+
+
+def unit(data):
+    """A real of UNITS, whose exact decimal may have hundreds of digits."""
+    worth = real8(data)
+    exact, short = decimal(worth), float(worth)
+    return exact if len(exact) < 20 else f"{'' if Fraction(short) == worth else 'nearly '}{short!r}"
 
 
 def longs(data):
@@ -99,8 +112,10 @@ def presentation(data):
 
 
 def words_of(name, data):
-    if name == "BGNSTR":
+    if name in ("BGNSTR", "BGNLIB"):
         return stamp(data)
+    if name == "UNITS":
+        return f"{unit(data[:8])} (user unit), {unit(data[8:])} (database unit)"
     if name == "XY":
         return " ".join(f"({x}, {y})" for x, y in points(data))
     if name == "COLROW":
@@ -112,7 +127,7 @@ def words_of(name, data):
         return {0x8000: "reflected", 0: "not reflected"}.get(int.from_bytes(data, "big"), f"0x{data.hex()}")
     if name in ("MAG", "ANGLE"):
         return decimal(real8(data))
-    if name in ("STRNAME", "SNAME", "STRING", "PROPVALUE"):
+    if name in ("LIBNAME", "STRNAME", "SNAME", "STRING", "PROPVALUE"):
         return quoted(data)
     if name in ("WIDTH", "BGNEXTN", "ENDEXTN"):
         return str(longs(data)[0])
@@ -126,17 +141,17 @@ def sized(data, size):
     return len(data) % 8 == 0 if size == -8 else size is None or len(data) == size
 
 
-def next_record(stream, at):
-    """(name, data) of the record at a byte."""
+def next_record(stream, at, records=RECORDS):
+    """(name, data) of the record at a byte, one of `records`."""
     left = len(stream) - at
     if left < 4:
         raise Damage(f"byte {at}: a record's head has 4 bytes, {left} are left")
     length, code, kind = struct.unpack_from(">HBB", stream, at)
     if length < 4 or length % 2:
         raise Damage(f"byte {at}: a record's length is even and at least 4, not {length}")
-    if code not in RECORDS:
-        raise Damage(f"byte {at + 2}: record code 0x{code:02x} is none of a structure's")
-    name, data_type, size = RECORDS[code]
+    if code not in records:
+        raise Damage(f"byte {at + 2}: record code 0x{code:02x} is none of a {'structure' if records is RECORDS else 'library'}'s")
+    name, data_type, size = records[code]
     if kind != data_type:
         raise Damage(f"byte {at + 3}: {name} has data type {data_type}, not {kind}")
     if length > left:
@@ -148,43 +163,72 @@ def next_record(stream, at):
     return name, data
 
 
+def is_library(stream):
+    """Whether a stream's first record is to be a HEADER."""
+    return stream[2:3] == bytes([HEADER])
+
+
 class Walk:
-    """The records of a stream in turn; each that is taken gets a line."""
+    """The records of a stream in turn; each that is taken gets a line. `structures` has each one's name and elements."""
 
     def __init__(self, stream, say):
         self.stream, self.at, self.last, self.say = stream, 0, 0, say
+        self.records, self.depth, self.structures = RECORDS, 0, []
 
     def peek(self):
-        return next_record(self.stream, self.at)
+        return next_record(self.stream, self.at, self.records)
 
     def take(self, *expected, indent=2):
         name, data = self.peek()
         if name not in expected:
             raise Damage(f"byte {self.at}: {name} stands where {' or '.join(expected)} belongs")
-        self.say(f"{self.at:6}{' ' * indent}{name:<{18 - indent}}{words_of(name, data)}".rstrip())
+        self.say(f"{self.at:6}{' ' * indent}{name:<{18 + self.depth - indent}}{words_of(name, data)}".rstrip())
         self.last, self.at = self.at, self.at + 4 + len(data)
         return name, data
 
-    def structure(self):
+    def whole(self):
+        """A library file where it starts with a HEADER, else one structure."""
+        if is_library(self.stream):
+            self.file()
+            return
         self.take("BGNSTR")
-        self.take("STRNAME")
-        name, _ = self.take(*ELEMENTS, "ENDSTR")
-        while name != "ENDSTR":
-            self.element(name)
-            name, _ = self.take(*ELEMENTS, "ENDSTR")
+        self.structure()
         if self.at != len(self.stream):
             raise Damage(f"byte {self.at}: {len(self.stream) - self.at} bytes follow ENDSTR")
 
+    def file(self):
+        self.records, self.depth = {**RECORDS, **LIBRARY_RECORDS}, 2
+        for name in ("HEADER", "BGNLIB", "LIBNAME", "UNITS"):
+            self.take(name)
+        while self.take("BGNSTR", "ENDLIB", indent=4 if self.peek()[0] == "BGNSTR" else 2)[0] == "BGNSTR":
+            self.structure()
+        rest = self.stream[self.at:]
+        if any(rest):
+            raise Damage(f"byte {self.at}: {len(rest)} bytes follow ENDLIB, not all zero")
+        if rest:
+            self.say(f"{self.at:6}  {many(len(rest), 'zero byte')} after ENDLIB: padding, as to the end of a tape block, and no part of the library")
+
+    def structure(self):
+        """From its STRNAME on."""
+        elements = []
+        self.structures.append((self.take("STRNAME", indent=2 + self.depth)[1].rstrip(b"\0"), elements))
+        name, _ = self.take(*ELEMENTS, "ENDSTR", indent=2 + self.depth)
+        while name != "ENDSTR":
+            elements.append((name, self.element(name)))
+            name, _ = self.take(*ELEMENTS, "ENDSTR", indent=2 + self.depth)
+
     def element(self, kind):
+        """The data of each of its records, up to its properties."""
         found = {}
         for name in ELEMENTS[kind]:
             wanted = name.rstrip("?")
             if wanted != name and (self.peek()[0] != wanted or wanted in ("MAG", "ANGLE") and "STRANS" not in found):
                 continue
-            found[wanted] = self.take(wanted, indent=4)[1]
+            found[wanted] = self.take(wanted, indent=4 + self.depth)[1]
             self.check(kind, wanted, found)
-        while self.take("PROPATTR", "ENDEL", indent=4)[0] == "PROPATTR":
-            self.take("PROPVALUE", indent=4)
+        while self.take("PROPATTR", "ENDEL", indent=4 + self.depth)[0] == "PROPATTR":
+            self.take("PROPVALUE", indent=4 + self.depth)
+        return found
 
     def check(self, kind, name, found):
         data = found[name]
@@ -204,7 +248,7 @@ class Walk:
             if difference[0] % count or difference[1] % count:
                 raise Damage(f"byte {self.last + 4}: the {what} step {tuple(difference)} / {count} is not whole")
             steps.append(f"{what} step ({difference[0] // count}, {difference[1] // count})")
-        self.say(" " * 24 + ", ".join(steps))
+        self.say(" " * (24 + self.depth) + ", ".join(steps))
 
 
 # ---- report entries
@@ -220,11 +264,21 @@ def entry_words(data, at=0):
     return f"element {index} ({KINDS[kind]}): {many(count, 'value')} affected, worst {spot}: p {p!r}, q {q}, error {error!r}"
 
 
-def entries(data, say):
-    for at in range(0, len(data), ENTRY):
-        if len(data) - at < ENTRY:
-            raise Damage(f"byte {at}: a report entry has {ENTRY} bytes, {len(data) - at} are left")
-        say(entry_words(data[at:at + ENTRY], at))
+def library_entry_words(data, names, at=0):
+    cell = int.from_bytes(data[:4], "big")
+    if cell >= len(names):
+        raise Damage(f"byte {at}: report entry: cell {cell}, and the library has {many(len(names), 'cell')}")
+    return f"cell {cell} ({quoted(names[cell])}), {entry_words(data[4:], at + 4)}"
+
+
+def entries(data, say, names=None):
+    """Entries of a cell; of a library, where its cells' names are given."""
+    size = ENTRY if names is None else LIBRARY_ENTRY
+    for at in range(0, len(data), size):
+        if len(data) - at < size:
+            raise Damage(f"byte {at}: a report entry has {size} bytes, {len(data) - at} are left")
+        one = data[at:at + size]
+        say(entry_words(one, at) if names is None else library_entry_words(one, names, at))
 
 
 # ---- input
@@ -257,23 +311,28 @@ def accepted(lines, say):
         raise Damage(f"line 1 says {length} bytes and {count} entries; there are {len(stream)} and {len(rest)}")
     greatest = struct.unpack(">d", unhexed(error, "line 1"))[0]
     say(f"accepted: {many(len(stream), 'byte')}, {many(len(rest), 'report entry').replace('entrys', 'entries')}, greatest error {greatest!r}")
-    Walk(stream, say).structure()
+    walk = Walk(stream, say)
+    walk.whole()
+    names = [name for name, _ in walk.structures] if is_library(stream) else None
+    size = ENTRY if names is None else LIBRARY_ENTRY
     for k, entry in enumerate(rest, 3):
-        if len(entry) != ENTRY:
-            raise Damage(f"line {k}: a report entry has {ENTRY} bytes, not {len(entry)}")
-        say(entry_words(entry))
+        if len(entry) != size:
+            raise Damage(f"line {k}: a report entry has {size} bytes, not {len(entry)}")
+        entries(entry, say, names)
 
 
 NO_ANSWER = {"short": "no answer: under 9 bytes of input", "long": "no answer: over 24,576 bytes of sheet"}
 
 
 def program_lines(lines, say):
-    """The lines of the program: `ok`, the stream, the entries; or a refusal."""
+    """The lines of the program, or of a stored library: `ok`, the stream, the entries; or a refusal."""
     first = lines[0]
     if first in NO_ANSWER:
         say(NO_ANSWER[first])
     elif re.fullmatch(r"no \d+ \d+", first):
         say("refused: number {1}, block {2} (tools/refusal.py {1} {2} says what that means)".format(*first.split(" ")))
+    elif re.fullmatch(r"no \d+ \d+ \d+", first):
+        say("refused: number {1}, cell {2}, block {3} (tools/refusal.py {1} {2} {3} says what that means)".format(*first.split(" ")))
     elif re.fullmatch(r"ok \d+ \d+ [0-9a-f]{16}", first) and len(lines) > 1:
         accepted(lines, say)
     else:
@@ -286,22 +345,35 @@ def explain(data, report, say):
     elif data[:3] in (b"ok ", b"no ") or data.strip() in (b"short", b"long"):
         program_lines(data.decode("ascii", "replace").rstrip("\n").split("\n"), say)
     else:
-        Walk(raw(data), say).structure()
+        Walk(raw(data), say).whole()
+
+
+def with_report(data, report, say):
+    """A library file, then its report in words."""
+    stream = raw(data)
+    if not is_library(stream):
+        raise Damage("a library's report goes with a library file, and this starts with no HEADER")
+    walk = Walk(stream, say)
+    walk.whole()
+    entries(raw(report), say, [name for name, _ in walk.structures])
 
 
 def main():
     end_with_the_pipe()
-    arguments = argparse.ArgumentParser(description="Turns a GDSII structure, and report entries, into readable text.")
+    arguments = argparse.ArgumentParser(description="Turns a GDSII structure or library file, and report entries, into readable text.")
     arguments.add_argument("input", nargs="?", default="-", metavar="INPUT", help="missing or -: standard input")
-    arguments.add_argument("--report", action="store_true", help="the input is report entries")
+    which = arguments.add_mutually_exclusive_group()
+    which.add_argument("--report", action="store_true", help="the input is report entries of a cell")
+    which.add_argument("--library-report", metavar="FILE", help="the report of the library file that is the input")
     given = arguments.parse_args()
+    if given.input == given.library_report == "-":
+        arguments.error("the library file and its report cannot both be standard input")
     try:
-        if given.input == "-":
-            data = sys.stdin.buffer.read()
+        data = read_input(given.input)
+        if given.library_report:
+            with_report(data, read_input(given.library_report), print)
         else:
-            with open(given.input, "rb") as f:
-                data = f.read()
-        explain(data, given.report, print)
+            explain(data, given.report, print)
     except (Damage, OSError) as fault:
         sys.stdout.flush()
         sys.exit(f"stream_to_text.py: {plain(fault)}")
