@@ -36,7 +36,7 @@ def cell_words(sheet, cell):
 
 
 def refused(sheet, number, cell, block):
-    place = "the library" if cell == refusal.OUTSIDE else f"{cell_words(sheet, cell)}, block {block}"
+    place = "outside a cell" if cell == refusal.OUTSIDE else f"{cell_words(sheet, cell)}, block {block}"
     return f"refusal {number}, {place}: {refusal.TABLE[number][1]}"
 
 
