@@ -7,9 +7,9 @@ For each case of the files (their form stands in tools/pack_cases.py): a sheet w
 and must come out as it went in; an expected stream and its entries are read by stream_to_text.py, which must not
 complain, and drawn by stream_to_svg.py; a refusal has its words; the answer must be the model's, and of a library the
 proved library's too, also through library.py, where the static library is built. Then faulty texts and damaged streams
-must get their message and nothing else, and so must wrong uses of bounds.py and survey.py, which must give the answers
-of tools/bounds_cases.txt and tools/survey_cases.txt, with the model's own picture of each row. The last line counts;
-the exit status is 0 if nothing was wrong.
+must get their message and nothing else, and so must wrong uses of bounds.py, survey.py and library.py; the first two
+must give the answers of tools/bounds_cases.txt and tools/survey_cases.txt, with the model's own picture of each row.
+The last line counts; the exit status is 0 if nothing was wrong.
 """
 import os
 import struct
@@ -71,6 +71,7 @@ BAD_SURVEYS = (
     ("1 1.5 --unit 1 --policy 0", "not 1.5"), ("1 -1 --unit 1 --policy 0", "not -1"), ("1 4294967296 --unit 1 --policy 0", "4294967295"), ("1 " + "9" * 5000 + " --unit 1 --policy 0", "..."),
     ("1 x --unit 1 --policy 0", "the number of places"),
 )
+BAD_CALLS = (("x 1", "not x"), ("256 1", "255"), ("-1 1", "not -1"), ("0 x", "the database unit"), ("0 1e999", "beyond the doubles"), ("0 0x12", "the database unit"))
 HERE = os.path.dirname(os.path.abspath(__file__))
 
 
@@ -292,6 +293,7 @@ def main():
     bad_texts(library_text.read_library, BAD_LIBRARIES, count)
     bad_uses(bounds, BAD_BOUNDS, count)
     bad_uses(survey, BAD_SURVEYS, count)
+    bad_uses(library, BAD_CALLS, count)
     proved = stored_answers(count)
     try:
         for path in sys.argv[1:]:
@@ -302,7 +304,7 @@ def main():
         sys.exit(f"check_tools.py: {form.plain(fault)}")
     print(f"{count.cases} cases: {count.there_and_back} sheets there and back, {count.ill} ill-formed; {count.streams} streams and "
           f"{count.entries} entries read, {count.drawn} drawn; {len(BAD_TEXTS) + len(BAD_LIBRARIES)} faulty texts, {count.damaged} damaged streams; "
-          f"{count.asked} bounds and surveys, {len(BAD_BOUNDS) + len(BAD_SURVEYS)} wrong uses; {count.written} libraries written; {count.wrong} wrong")
+          f"{count.asked} bounds and surveys, {len(BAD_BOUNDS) + len(BAD_SURVEYS) + len(BAD_CALLS)} wrong uses; {count.written} libraries written; {count.wrong} wrong")
     sys.exit(count.wrong != 0)
 
 

@@ -53,9 +53,15 @@ def told(library, policy, d, sheet):
     return f"accepted: {many(length, 'byte')}, {words}, greatest error {greatest!r}", 0, file, report
 
 
+def numbers(words):
+    """(policy, d) as the words give them"""
+    policy, d = words
+    return arguments.policy_of(policy), arguments.value_of(d, "the database unit")
+
+
 def run(given):
     """Answers a call; its exit status."""
-    policy, d = arguments.policy_of(given.policy), arguments.value_of(given.unit, "the database unit")
+    policy, d = numbers((given.policy, given.unit))
     library = exported.load()
     sheet = form.read_input(given.library) if given.from_sheet else cell_to_sheet.sheet_from(given.library, library_text.sheet_of)
     if given.sheet:

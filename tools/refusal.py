@@ -1,5 +1,6 @@
 #!/usr/bin/env python3
-"""Says what a refusal means: number and block, as the program `structure` prints them, or number, cell and block of a library; 32 is of bounds.py, 33 of survey.py. A convenience, outside the proof.
+"""Says what a refusal means: number and block, as the program `structure` prints them, or number, cell and block of a
+library; 32 is of bounds.py, 33 of survey.py. A convenience, outside the proof.
 
     refusal.py NUMBER [BLOCK]         a few lines about one
     refusal.py NUMBER CELL BLOCK      of a library; CELL is 4294967295 outside a cell
