@@ -14,8 +14,8 @@ magnified, turned, then moved; of two of one name the first is meant. Where it i
 instance is a cross with its name.
 
 The work is bounded: an array of more than 1,024 instances is an outline with its counts, a call more than 64 deep is a
-cross, and after 100,000 points, an instance taken for one, nothing more is drawn. What is left out is said on standard
-error; the exit status is 0.
+cross, and after 100,000 points, references and instances counted with them, nothing more is drawn. What is left out is
+said on standard error; the exit status is 0.
 """
 import argparse
 import math
@@ -104,7 +104,7 @@ class Drawing:
         for kind, found in self.structures[name]:
             if kind in ("SREF", "AREF"):
                 self.reference(kind, found, turn, above)
-            elif not self.spent(len(found["XY"]) // 8, "elements"):
+            elif not self.spent(max(1, len(found["XY"]) // 8), "elements"):
                 self.element(kind, found, turn)
 
     def element(self, kind, found, turn):
@@ -124,12 +124,13 @@ class Drawing:
             self.add("polygon" if kind == "BOUNDARY" else "node", places, layer)
 
     def reference(self, kind, found, turn, above):
+        if self.spent(1, "references"):
+            return
         name, corners = found["SNAME"].rstrip(b"\0"), points(found["XY"])
         columns, rows = struct.unpack(">HH", found["COLROW"]) if kind == "AREF" else (1, 1)
         if columns * rows > MOST_INSTANCES:
-            if not self.spent(4, "arrays"):
-                self.leave_out(f"arrays of over {MOST_INSTANCES:,} instances, but for their outlines")
-                self.outline(name, corners, (columns, rows), turn)
+            self.leave_out(f"arrays of over {MOST_INSTANCES:,} instances, but for their outlines")
+            self.outline(name, corners, (columns, rows), turn)
             return
         steps = [[(corner[k] - corners[0][k]) // count for k in (0, 1)] for corner, count in zip(corners[1:], (columns, rows))] or [[0, 0]] * 2
         for i in range(columns):
