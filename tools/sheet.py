@@ -65,20 +65,18 @@ def read_input(path):
 
 def write_whole(path, data):
     """Writes a file whole or not at all; what is no file, a terminal for one, is written to as it is."""
-    if os.path.exists(path) and not os.path.isfile(path):
-        with open(path, "wb") as out:
-            out.write(data)
-        return
+    plain_file = os.path.isfile(path) or not os.path.exists(path)
     target = os.path.realpath(path)
-    made = f"{target}.{os.getpid()}"
+    made = f"{target}.{os.getpid()}" if plain_file else path
     try:
         with open(made, "wb") as out:
             out.write(data)
-        os.replace(made, target)
+        if plain_file:
+            os.replace(made, target)
     except OSError as fault:
         raise OSError(fault.errno, fault.strerror, path) from None
     finally:
-        if os.path.exists(made):
+        if plain_file and os.path.exists(made):
             os.remove(made)
 
 
