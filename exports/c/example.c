@@ -1,13 +1,13 @@
 // Writes document 01's array: origin (0.5, 0), spacing (10.5, 0), 4 columns, 1 row, to the nearest grid point of d = 1.
 // Prints the structure and the one report entry, and measures first, as a caller who owns the memory does.
-// Then asks where the column spacing may come to lie if etching leaves it within 10.25 to 10.75, and with the ends exchanged;
+// Then writes a library of an empty cell B and that cell A, and shows which of its blocks strict refuses. Asks where the column spacing may come to lie if etching leaves it within 10.25 to 10.75, and with the ends exchanged;
 // and how many of 4 places that spacing disturbs, and of none.
 #include "ravenvanity.h"
 #include <stdio.h>
 #include <stdlib.h>
 #include <string.h>
 
-static uint8_t sheet[512];
+static uint8_t sheet[1024];
 static size_t used;
 
 static void put(uint64_t number, int bytes) {
@@ -27,17 +27,18 @@ static void put_coordinate(double value) { // in the unit 1
     put_double(1);
 }
 
-static void put_head(void) {
-    put(1, 2), put('A', 1); // the name
+static void put_name(char name) { put(1, 2), put((uint8_t)name, 1); }
+
+static void put_stamps(void) { // none
     for (int i = 0; i < 12; i++)
-        put(0, 2); // no stamps
+        put(0, 2);
 }
 
 static void put_array(void) {
     put(5, 1);
-    put(1, 2), put('B', 1); // the cell that it calls
-    put(4, 4), put(1, 4);   // columns, rows
-    put(0, 1);              // no reflection
+    put_name('B');        // the cell that it calls
+    put(4, 4), put(1, 4); // columns, rows
+    put(0, 1);            // no reflection
     put_double(1), put_double(0), put_double(0), put_double(1); // magnification, degrees, sine, cosine
     put_coordinate(0.5), put_coordinate(0);
     put_coordinate(10.5), put_coordinate(0);
@@ -45,11 +46,42 @@ static void put_array(void) {
     put(0, 2); // no properties
 }
 
-static void put_pair(size_t at, size_t offset, size_t length) {
+static size_t start_sheet(size_t pairs) {
+    size_t start = used;
+    put(pairs, 4);
+    used += 8 * pairs;
+    return start;
+}
+
+// Pair k of the sheet at start: the block from there to here.
+static void put_pair(size_t start, size_t k, size_t from) {
     size_t end = used;
-    used = at;
-    put(offset, 4), put(length, 4);
+    used = start + 4 + 8 * k;
+    put(from - start, 4), put(end - from, 4);
     used = end;
+}
+
+static void put_cell(char name, size_t arrays) {
+    size_t start = start_sheet(1 + arrays), from = used;
+    put_name(name), put_stamps();
+    put_pair(start, 0, from);
+    for (size_t k = 1; k <= arrays; k++) {
+        from = used;
+        put_array();
+        put_pair(start, k, from);
+    }
+}
+
+static void put_library(void) {
+    size_t start = start_sheet(3), from = used;
+    put_name('L'), put_double(0.001), put_stamps(); // 0.001 is the user unit
+    put_pair(start, 0, from);
+    from = used;
+    put_cell('B', 0);
+    put_pair(start, 1, from);
+    from = used;
+    put_cell('A', 1);
+    put_pair(start, 2, from);
 }
 
 static void print_hex(const uint8_t *bytes, size_t length) {
@@ -58,16 +90,9 @@ static void print_hex(const uint8_t *bytes, size_t length) {
     printf("\n");
 }
 
-int main(void) {
-    put(2, 4);
-    used += 16;
-    size_t head = used;
-    put_head();
-    size_t array = used;
-    put_array();
-    put_pair(4, head, array - head);
-    put_pair(12, array, used - array);
-
+static int write_array(void) {
+    used = 0;
+    put_cell('A', 1);
     size_t block, length, entries;
     double greatest;
     uint8_t number = ravenvanity_measure_cell(sheet, used, &block, &length, &entries, &greatest, 0, 1);
@@ -86,7 +111,40 @@ int main(void) {
     number = ravenvanity_write_cell(sheet, used, out, length - 1, report, report_length, &block, &length, &entries, &greatest, 0, 1);
     printf("one byte less: %d\n", number);
     free(out), free(report);
+    return 0;
+}
 
+static int write_library(void) {
+    used = 0;
+    put_library();
+    size_t cell, block, length, entries;
+    double greatest;
+    uint8_t number = ravenvanity_measure_library(sheet, used, &cell, &block, &length, &entries, &greatest, 0, 1);
+    if (number != 0) {
+        printf("no %d %zu %zu\n", number, cell, block);
+        return 1;
+    }
+    size_t out_length = length, report_length = entries * RAVENVANITY_LIBRARY_ENTRY_LENGTH;
+    uint8_t *out = malloc(out_length), *report = malloc(report_length + 1);
+    if (!out || !report)
+        return 1;
+    number = ravenvanity_write_library(sheet, used, out, out_length, report, report_length, &cell, &block, &length, &entries, &greatest, 0, 1);
+    printf("library: %d %zu %zu %g\n", number, length, entries, greatest);
+    print_hex(out, length);
+    print_hex(report, report_length);
+    number = ravenvanity_write_library(sheet, used, out, out_length, report, 0, &cell, &block, &length, &entries, &greatest, 0, 1);
+    printf("library without a report: %d, %s\n", number, cell == RAVENVANITY_NO_CELL ? "outside a cell" : "in a cell");
+    number = ravenvanity_measure_library(sheet, used, &cell, &block, &length, &entries, &greatest, 3, 1);
+    printf("library, strict: %d in cell %zu, block %zu\n", number, cell, block);
+    free(out), free(report);
+    return 0;
+}
+
+int main(void) {
+    if (write_array() != 0 || write_library() != 0)
+        return 1;
+
+    uint8_t number;
     int32_t least, greatest_value;
     number = ravenvanity_convert_bounds(&least, &greatest_value, 0, 1, 10.25, 10.75);
     printf("10.25 to 10.75: %d %d %d\n", number, least, greatest_value);

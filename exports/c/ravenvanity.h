@@ -1,5 +1,6 @@
-/* The proved GDSII cell writer, lengths within bounds, and the pitch survey: document 01 has the cell sheet, the refusals
- * and the report entry, document 02 the bounds and the survey (its requests 11 and 12).
+/* The proved GDSII writer of cells and libraries, lengths within bounds, and the pitch survey: document 01 has the cell
+ * sheet, the refusals and the report entry, document 02 the library sheet, the bounds and the survey (its requests 1, 11
+ * and 12).
  *
  * No pointer may be NULL, not even with length 0; the sheet, the two buffers and the answers must not overlap.
  * Nothing else is asked of a caller: every sheet, number and length has an answer. Nothing is kept between calls, no
@@ -10,6 +11,9 @@
  * written:
  *     accepted: *block = 0, *length and *entries of the structure and the report, *greatest error (0 if none)
  *     refused:  *block (0 if none), *length = 0, *entries = 0, *greatest = 0
+ * The two for libraries return 0 or a number from 1 to 25, and have a fifth answer, the cell that is refused:
+ *     accepted: *cell = 0 and *block = 0, *length and *entries of the file and the report, *greatest error (0 if none)
+ *     refused:  *cell, from 0, and *block in its sheet, or RAVENVANITY_NO_CELL and 0 outside a cell; the others are 0
  */
 #ifndef RAVENVANITY_H
 #define RAVENVANITY_H
@@ -22,6 +26,8 @@ extern "C" {
 #endif
 
 #define RAVENVANITY_ENTRY_LENGTH 33
+#define RAVENVANITY_LIBRARY_ENTRY_LENGTH 37
+#define RAVENVANITY_NO_CELL 4294967295
 #define RAVENVANITY_MAX_SHEET 16777216
 #define RAVENVANITY_MAX_PLACES 65536
 
@@ -37,6 +43,28 @@ uint8_t ravenvanity_write_cell(const uint8_t *sheet, size_t sheet_length,
                                uint8_t *report, size_t report_length,
                                size_t *block, size_t *length, size_t *entries, double *greatest,
                                uint8_t policy, double d);
+
+/* What writing a library takes: a report of *entries * RAVENVANITY_LIBRARY_ENTRY_LENGTH bytes and an output of *length are
+ * enough. A library sheet has the pairs of a cell sheet; its block 0 holds the name, the user unit and the stamps, and
+ * every further block is a cell sheet, in the order of the structures. Names may repeat. Refusals, in this order:
+ *     1  policy above 3                               2  d not finite and positive
+ *     3  sheet over RAVENVANITY_MAX_SHEET bytes      23  pairs or block 0 ill-formed
+ *     6  the library's stamps                        24  user unit not finite and positive, or it or d not encodable
+ *    25  name over 65,530 bytes
+ * then those of each cell from its 4 to its 20, one cell after the other. The first seven are outside a cell, and so are
+ * 21 and 22. */
+uint8_t ravenvanity_measure_library(const uint8_t *sheet, size_t sheet_length,
+                                    size_t *cell, size_t *block, size_t *length, size_t *entries, double *greatest,
+                                    uint8_t policy, double d);
+
+/* Writes the whole file, from HEADER to ENDLIB, to the start of out and the entries to the start of report, each of them
+ * a cell's number in 4 bytes and the cell's own entry; the bytes after them stay, and where the library is refused all
+ * bytes of both. After every cell, 21: out is too short; then 22: report is too short. */
+uint8_t ravenvanity_write_library(const uint8_t *sheet, size_t sheet_length,
+                                  uint8_t *out, size_t out_length,
+                                  uint8_t *report, size_t report_length,
+                                  size_t *cell, size_t *block, size_t *length, size_t *entries, double *greatest,
+                                  uint8_t policy, double d);
 
 /* The least and the greatest database value over all doubles from lower to upper, both included, in physical units.
  * Returns 0 where there is a range: each of the two values is that of some double in it, and every double in it is
