@@ -1,7 +1,8 @@
 // Writes document 01's array: origin (0.5, 0), spacing (10.5, 0), 4 columns, 1 row, to the nearest grid point of d = 1.
 // Prints the structure and the one report entry, and measures first, as a caller who owns the memory does.
-// Then writes a library of an empty cell B and that cell A, and shows which of its blocks strict refuses. Asks where the column spacing may come to lie if etching leaves it within 10.25 to 10.75, and with the ends exchanged;
-// and how many of 4 places that spacing disturbs, and of none.
+// Then writes a library of an empty cell B and of that cell, A, and shows which of its blocks strict refuses; asks where the
+// column spacing may come to lie if etching leaves it within 10.25 to 10.75, and with the ends exchanged; and how many of 4
+// places that spacing disturbs, and of none.
 #include "ravenvanity.h"
 #include <stdio.h>
 #include <stdlib.h>

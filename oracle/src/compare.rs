@@ -1,10 +1,11 @@
 //! gdsr against the proved writer, case by case.
-use crate::answer::{Answer, Expected, expected};
-use crate::generate::{Input, input};
+use crate::answer::Answer;
+use crate::expected::{Expected, expected, whole_file};
+use crate::generate::{input, library_input};
+use crate::input::{Input, Job, hex};
 use crate::random::Random;
-use crate::ravenvanity::{self, Accepted, ENTRY_LENGTH, Refusal};
+use crate::ravenvanity::{self, Accepted, LibraryRefusal, Refusal};
 use crate::sheet;
-use crate::stored::hex;
 use std::collections::BTreeMap;
 
 /// What a buffer holds before, so that a byte that should stay is seen to.
@@ -13,15 +14,30 @@ fn before(length: usize, salt: u8) -> Vec<u8> {
 }
 
 struct Written {
-    answer: Result<Accepted, Refusal>,
+    answer: Result<Accepted, LibraryRefusal>,
     out: Vec<u8>,
     report: Vec<u8>,
+}
+
+/// A cell's refusal as a library's: the cell stays unnamed.
+fn unnamed(refusal: Refusal) -> LibraryRefusal {
+    LibraryRefusal { number: refusal.number, cell: None, block: refusal.block }
+}
+
+fn measure(given: &Input) -> Result<Accepted, LibraryRefusal> {
+    match given.job {
+        Job::Cell => ravenvanity::measure_cell(given.policy, given.d, &given.sheet).map_err(unnamed),
+        Job::Library => ravenvanity::measure_library(given.policy, given.d, &given.sheet),
+    }
 }
 
 fn write(given: &Input, out: usize, report: usize) -> Written {
     let mut out = before(out, 0x5a);
     let mut report = before(report, 0xa5);
-    let answer = ravenvanity::write_cell(given.policy, given.d, &given.sheet, &mut out, &mut report);
+    let answer = match given.job {
+        Job::Cell => ravenvanity::write_cell(given.policy, given.d, &given.sheet, &mut out, &mut report).map_err(unnamed),
+        Job::Library => ravenvanity::write_library(given.policy, given.d, &given.sheet, &mut out, &mut report),
+    };
     Written { answer, out, report }
 }
 
@@ -30,22 +46,22 @@ fn untouched(written: &Written) -> bool {
 }
 
 /// The answer with the bytes it stands for; or what is wrong with the buffers.
-fn answer_of(written: &Written) -> Result<Answer, String> {
+fn answer_of(written: &Written, entry_length: usize) -> Result<Answer, String> {
     match written.answer {
-        Err(refusal) if untouched(written) => Ok(Answer::Refused { number: refusal.number, block: refusal.block }),
+        Err(LibraryRefusal { number, cell, block }) if untouched(written) => Ok(Answer::Refused { number, cell, block }),
         Err(refusal) => Err(format!("{refusal:?} with a touched buffer")),
         Ok(accepted) => {
-            let reported = accepted.entries.saturating_mul(ENTRY_LENGTH);
+            let reported = accepted.entries.saturating_mul(entry_length);
             if accepted.length > written.out.len() || reported > written.report.len() {
                 return Err(format!("{accepted:?} beyond its buffers"));
             }
             let rest = written.out[accepted.length..] == before(written.out.len(), 0x5a)[accepted.length..]
                 && written.report[reported..] == before(written.report.len(), 0xa5)[reported..];
             if !rest {
-                return Err("a byte after the structure or the entries changed".to_string());
+                return Err("a byte after the structure, the file or the entries changed".to_string());
             }
             Ok(Answer::Accepted {
-                structure: written.out[..accepted.length].to_vec(),
+                bytes: written.out[..accepted.length].to_vec(),
                 entries: written.report[..reported].to_vec(),
                 greatest: accepted.greatest.to_bits(),
             })
@@ -53,15 +69,20 @@ fn answer_of(written: &Written) -> Result<Answer, String> {
     }
 }
 
-/// More than any structure and report of this sheet take.
-fn room(sheet: &[u8]) -> (usize, usize) {
-    let pairs = sheet.first_chunk().map_or(0, |bytes| u32::from_be_bytes(*bytes) as usize);
-    (4 * sheet.len() + 64, ENTRY_LENGTH * pairs.min(sheet::MAX_PAIRS) + 7)
+/// The program's lines for the proved writer's answer, in buffers of these lengths.
+pub fn answer_in(given: &Input, out: usize, report: usize) -> Result<Answer, String> {
+    answer_of(&write(given, out, report), given.job.entry_length())
+}
+
+/// More than any output and report of this sheet take: an element with an entry has 51 bytes of it or more.
+fn room(given: &Input) -> (usize, usize) {
+    let length = given.sheet.len();
+    (4 * length + 64, given.job.entry_length() * (length / 51) + 7)
 }
 
 fn expect_refusal(given: &Input, out: usize, report: usize, number: u8) -> Result<(), String> {
     let written = write(given, out, report);
-    let wanted = Err(Refusal { number, block: 0 });
+    let wanted = Err(LibraryRefusal { number, cell: None, block: 0 });
     if written.answer == wanted && untouched(&written) {
         return Ok(());
     }
@@ -70,24 +91,24 @@ fn expect_refusal(given: &Input, out: usize, report: usize, number: u8) -> Resul
 
 /// Measuring, and buffers that fit exactly or are one byte short, where the proved writer alone has something to say.
 fn own_checks(given: &Input, answer: &Answer) -> Result<(), String> {
-    let measured = ravenvanity::measure_cell(given.policy, given.d, &given.sheet);
+    let measured = measure(given);
     match answer {
-        Answer::Refused { number, block } => {
-            if measured != Err(Refusal { number: *number, block: *block }) {
+        Answer::Refused { number, cell, block } => {
+            if measured != Err(LibraryRefusal { number: *number, cell: *cell, block: *block }) {
                 return Err(format!("measuring gives {measured:?}"));
             }
         }
-        Answer::Accepted { structure, entries, greatest } => {
-            let (length, reported) = (structure.len(), entries.len());
+        Answer::Accepted { bytes, entries, greatest } => {
+            let (length, reported) = (bytes.len(), entries.len());
             let same = measured.is_ok_and(|accepted| {
                 accepted.length == length
-                    && accepted.entries * ENTRY_LENGTH == reported
+                    && accepted.entries * given.job.entry_length() == reported
                     && accepted.greatest.to_bits() == *greatest
             });
             if !same {
                 return Err(format!("measuring gives {measured:?}"));
             }
-            if answer_of(&write(given, length, reported))? != *answer {
+            if answer_in(given, length, reported)? != *answer {
                 return Err("buffers that fit exactly give another answer".to_string());
             }
             expect_refusal(given, length - 1, reported, 21)?;
@@ -102,9 +123,10 @@ fn own_checks(given: &Input, answer: &Answer) -> Result<(), String> {
 
 fn short(answer: &Answer) -> String {
     match answer {
-        Answer::Refused { number, block } => format!("no {number} {block}"),
-        Answer::Accepted { structure, entries, greatest } => {
-            format!("ok {} {} {greatest:016x}", structure.len(), entries.len() / ENTRY_LENGTH)
+        Answer::Refused { number, cell: None, block } => format!("no {number} {block}"),
+        Answer::Refused { number, cell: Some(cell), block } => format!("no {number}, cell {cell}, {block}"),
+        Answer::Accepted { bytes, entries, greatest } => {
+            format!("ok {}, {} bytes of entries, {greatest:016x}", bytes.len(), entries.len())
         }
     }
 }
@@ -121,10 +143,8 @@ fn first_difference(what: &str, wanted: &[u8], proved: &[u8]) -> String {
 
 fn difference(wanted: &Answer, proved: &Answer, from: &str) -> String {
     let mut text = format!("expected ({from}): {}\n  proved: {}", short(wanted), short(proved));
-    if let (Answer::Accepted { structure: a, entries: e, .. }, Answer::Accepted { structure: b, entries: f, .. }) =
-        (wanted, proved)
-    {
-        text += &first_difference("structure", a, b);
+    if let (Answer::Accepted { bytes: a, entries: e, .. }, Answer::Accepted { bytes: b, entries: f, .. }) = (wanted, proved) {
+        text += &first_difference("output", a, b);
         text += &first_difference("entries", e, f);
     }
     text
@@ -132,16 +152,16 @@ fn difference(wanted: &Answer, proved: &Answer, from: &str) -> String {
 
 /// What a case counts as; or the mismatch.
 fn judge(given: &Input, any_pair: bool) -> Result<String, String> {
-    let (out, report) = room(&given.sheet);
-    let proved = answer_of(&write(given, out, report))?;
+    let (out, report) = room(given);
+    let proved = answer_in(given, out, report)?;
     own_checks(given, &proved)?;
-    let (wanted, from) = match expected(given.policy, given.d, &given.sheet, any_pair) {
+    let (wanted, from) = match expected(given, any_pair) {
         Expected::Gdsr(answer) => (answer, "gdsr"),
-        Expected::Added(answer) => (answer, "added by document 01"),
-        Expected::NoCounterpart { block, why } => {
-            // what comes before the block passes
+        Expected::Added(answer) => (answer, "added by the documents"),
+        Expected::NoCounterpart { cell: of, block, why } => {
+            // what comes before the block passes; what is outside a library's cells comes before them
             return match proved {
-                Answer::Refused { block: k, .. } if k < block => {
+                Answer::Refused { cell, block: k, .. } if (cell, k) < (of, block) => {
                     Err(format!("all before block {block} passes in gdsr; proved: {}", short(&proved)))
                 }
                 _ => Ok(format!("not compared: {why}")),
@@ -151,21 +171,35 @@ fn judge(given: &Input, any_pair: bool) -> Result<String, String> {
     if proved != wanted {
         return Err(difference(&wanted, &proved, from));
     }
+    let place = if matches!(wanted, Answer::Refused { cell: Some(_), .. }) { " in a cell" } else { "" };
     Ok(match wanted {
-        Answer::Refused { number, .. } => format!("refused {number:2}, {from}"),
+        Answer::Refused { number, .. } => format!("refused {number:2}{place}, {from}"),
         Answer::Accepted { entries, .. } if entries.is_empty() => "accepted, no entry".to_string(),
         Answer::Accepted { .. } => "accepted, with entries".to_string(),
     })
 }
 
-fn input_hex(given: &Input) -> String {
-    format!("{:02x}{:016x}{}", given.policy, given.d.to_bits(), hex(&given.sheet))
+/// Whether gdsr, given the whole library, answers the same, where it can be given it; or the mismatch.
+fn judge_whole(given: &Input) -> Result<Option<&'static str>, String> {
+    let (out, report) = room(given);
+    let proved = answer_in(given, out, report)?;
+    if matches!(proved, Answer::Refused { cell: None, .. }) {
+        return Ok(None);
+    }
+    match (whole_file(given), &proved) {
+        (None, _) => Ok(None),
+        (Some(Ok(answer)), proved) if answer == *proved => Ok(Some("accepted")),
+        (Some(Ok(answer)), proved) => Err(difference(&answer, proved, "gdsr, the whole file")),
+        (Some(Err(number)), Answer::Refused { number: own, .. }) if *own == number => Ok(Some("refused")),
+        (Some(Err(number)), proved) => Err(format!("gdsr refuses the whole file by {number}; proved: {}", short(proved))),
+    }
 }
 
-/// What the accepted cells hold.
+/// What the accepted cells or libraries hold.
 #[derive(Default)]
 struct Held {
     by_policy: [usize; 4],
+    cells: usize,
     by_kind: [usize; 6],
     arrays: usize,
 }
@@ -173,17 +207,32 @@ struct Held {
 impl Held {
     fn add(&mut self, given: &Input) {
         self.by_policy[usize::from(given.policy & 3)] += 1;
-        for block in sheet::blocks_of(&given.sheet).unwrap_or_default().iter().skip(1) {
+        match given.job {
+            Job::Cell => self.add_cell(&given.sheet),
+            Job::Library => {
+                for block in sheet::blocks_of(&given.sheet).unwrap_or_default().iter().skip(1) {
+                    self.add_cell(block);
+                }
+            }
+        }
+    }
+
+    fn add_cell(&mut self, given: &[u8]) {
+        self.cells += 1;
+        for block in sheet::blocks_of(given).unwrap_or_default().iter().skip(1) {
             self.by_kind[usize::from(block[0]).min(5)] += 1;
             let body = sheet::element_of(block).map(|element| element.body);
             self.arrays += usize::from(matches!(body, Some(sheet::Body::Reference { counts, .. }) if counts != [1, 1]));
         }
     }
 
-    fn print(&self) {
+    fn print(&self, job: Job) {
         let [nearest, floor, ceiling, strict] = self.by_policy;
         println!("  accepted by policy: nearest {nearest}, floor {floor}, ceiling {ceiling}, strict {strict}");
         let [_, polygons, paths, texts, nodes, references] = self.by_kind;
+        if job == Job::Library {
+            println!("  in accepted libraries: {} cells", self.cells);
+        }
         println!(
             "  in accepted cells: {polygons} polygons, {paths} paths, {texts} texts, {nodes} nodes, {references} references, {} of them arrays",
             self.arrays
@@ -191,39 +240,72 @@ impl Held {
     }
 }
 
-pub fn run(seed: u64, cases: std::ops::Range<u64>, any_pair: bool) -> bool {
+/// What the cases of a run came to.
+#[derive(Default)]
+struct Tally {
+    counts: BTreeMap<String, usize>,
+    /// Libraries that gdsr was given whole, too.
+    whole: BTreeMap<&'static str, usize>,
+    held: Held,
+    mismatches: usize,
+    damaged: usize,
+    bytes: usize,
+}
+
+impl Tally {
+    /// The mismatch, if there is one.
+    fn add(&mut self, given: &Input, any_pair: bool) -> Result<(), String> {
+        self.damaged += usize::from(given.damaged);
+        self.bytes += given.sheet.len();
+        let kind = judge(given, any_pair)?;
+        if given.job == Job::Library
+            && let Some(what) = judge_whole(given)?
+        {
+            *self.whole.entry(what).or_default() += 1;
+        }
+        if kind.starts_with("accepted") {
+            self.held.add(given);
+        }
+        *self.counts.entry(kind).or_default() += 1;
+        Ok(())
+    }
+
+    fn print(&self, job: Job) {
+        for (kind, count) in &self.counts {
+            println!("  {count:8} {kind}");
+        }
+        let all: usize = self.held.by_policy.iter().sum();
+        let with_entries = self.counts.get("accepted, with entries").copied().unwrap_or_default();
+        println!("  a byte less than they take: 21 in the {all} accepted, 22 in the {with_entries} with entries");
+        if job == Job::Library {
+            let of = |what| self.whole.get(what).copied().unwrap_or_default();
+            println!("  by gdsr as whole files, too: {} accepted, {} refused", of("accepted"), of("refused"));
+        }
+        self.held.print(job);
+        println!("  {} of the sheets were damaged; {} bytes of sheets in all", self.damaged, self.bytes);
+    }
+}
+
+pub fn run(job: Job, seed: u64, cases: std::ops::Range<u64>, any_pair: bool) -> bool {
     let pairs = if any_pair { "any" } else { "gdsr's own" };
-    println!("seed {seed}, cases {} to {}, arrays with {pairs} sines and cosines", cases.start, cases.end.saturating_sub(1));
-    let mut counts: BTreeMap<String, usize> = BTreeMap::new();
-    let mut held = Held::default();
-    let (mut mismatches, mut damaged, mut bytes) = (0, 0, 0);
-    for index in cases.clone() {
-        let given = input(&mut Random::of_case(seed, index), any_pair);
-        damaged += usize::from(given.damaged);
-        bytes += given.sheet.len();
-        match judge(&given, any_pair) {
-            Ok(kind) => {
-                if kind.starts_with("accepted") {
-                    held.add(&given);
-                }
-                *counts.entry(kind).or_default() += 1;
-            }
-            Err(what) => {
-                mismatches += 1;
-                println!("MISMATCH seed {seed} index {index}\n  input {}\n  {what}", input_hex(&given));
-            }
+    let (first, last) = (cases.start, cases.end.saturating_sub(1));
+    println!("seed {seed}, {} {first} to {last}, arrays with {pairs} sines and cosines", job.several());
+    let count = cases.end - cases.start;
+    let mut tally = Tally::default();
+    for index in cases {
+        let mut random = Random::of_case(seed, index);
+        let given = match job {
+            Job::Cell => input(&mut random, any_pair),
+            Job::Library => library_input(&mut random),
+        };
+        if let Err(what) = tally.add(&given, any_pair) {
+            tally.mismatches += 1;
+            println!("MISMATCH seed {seed} index {index}\n  input {}\n  {what}", given.hex());
         }
     }
-    for (kind, count) in &counts {
-        println!("  {count:8} {kind}");
-    }
-    let all: usize = held.by_policy.iter().sum();
-    let with_entries = counts.get("accepted, with entries").copied().unwrap_or_default();
-    println!("  a byte less than they take: 21 in the {all} accepted, 22 in the {with_entries} with entries");
-    held.print();
-    println!("  {damaged} of the sheets were damaged; {bytes} bytes of sheets in all");
-    println!("{} cases, {mismatches} mismatches", cases.end - cases.start);
-    mismatches == 0
+    tally.print(job);
+    println!("{count} {}, {} mismatches", job.several(), tally.mismatches);
+    tally.mismatches == 0
 }
 
 /// Sheets about the greatest length, and the pair count at its limits: too long for the run of many.
@@ -249,21 +331,30 @@ fn long_inputs() -> Vec<(String, Input)> {
         let body = sheet::Body::Shape { kind: 4, layer: 1, data_type: 1, points: vec![place] };
         sheet::element_block(&sheet::Element { body, properties })
     };
-    let with = |blocks: &[Vec<u8>]| Input { policy: 0, d: 1.0, sheet: sheet::sheet_of(blocks), damaged: false };
+    let cell = |properties: Vec<_>| sheet::sheet_of(&[head.clone(), node(properties)]);
+    let library = sheet::LibraryHead { name: b"L".to_vec(), user_unit: 1.0, stamps: [0; 12] };
+    let library_head = sheet::library_head_block(&library);
     let mut inputs = Vec::new();
-    for count in [16_383_usize, 16_384, 16_385] {
-        let mut blocks = vec![node(vec![]); count];
-        blocks[0] = head.clone();
-        inputs.push((format!("{count} pairs"), with(&blocks)));
-    }
-    // many properties of a long value, and one that fills the sheet to a byte
-    for extra in [0, 1, 2] {
-        let mut properties = vec![property(65_400); 255];
-        properties.push(property(50_000));
-        let short = with(&[head.clone(), node(properties.clone())]).sheet.len();
-        properties.push(property(sheet::MAX_SHEET - 1 - short - 4 + extra));
-        let given = with(&[head.clone(), node(properties)]);
-        inputs.push((format!("a sheet of {} bytes", given.sheet.len()), given));
+    for (job, first, block) in [(Job::Cell, &head, node(vec![])), (Job::Library, &library_head, cell(vec![]))] {
+        let with = |blocks: &[Vec<u8>]| Input { job, policy: 0, d: 1.0, sheet: sheet::sheet_of(blocks), damaged: false };
+        for count in [16_383_usize, 16_384, 16_385] {
+            let mut blocks = vec![block.clone(); count];
+            blocks[0] = first.clone();
+            inputs.push((format!("{}: {count} pairs", job.several()), with(&blocks)));
+        }
+        // many properties of a long value, and one that fills the sheet to a byte
+        let filled = |properties: Vec<_>| {
+            let last = if job == Job::Cell { node(properties) } else { cell(properties) };
+            with(&[first.clone(), last])
+        };
+        for extra in [0, 1, 2] {
+            let mut properties = vec![property(65_400); 255];
+            properties.push(property(50_000));
+            let short = filled(properties.clone()).sheet.len();
+            properties.push(property(sheet::MAX_SHEET - 1 - short - 4 + extra));
+            let given = filled(properties);
+            inputs.push((format!("{}: a sheet of {} bytes", job.several(), given.sheet.len()), given));
+        }
     }
     inputs
 }

@@ -1,14 +1,11 @@
 //! Makes inputs: a policy, a database unit and a sheet, whole or damaged.
+use crate::input::{Input, Job};
 use crate::random::{Random, stepped};
-use crate::sheet::{Body, Coordinate, Element, Head, Place, Property, Turn, element_block, head_block, sheet_of};
+use crate::sheet::{
+    Body, Coordinate, Element, Head, LibraryHead, Place, Property, Turn, element_block, head_block, head_of, library_head_block,
+    sheet_of,
+};
 use gdsr::Radians;
-
-pub struct Input {
-    pub policy: u8,
-    pub d: f64,
-    pub sheet: Vec<u8>,
-    pub damaged: bool,
-}
 
 /// What a cell's numbers are made from.
 struct Maker<'a> {
@@ -18,6 +15,8 @@ struct Maker<'a> {
     wild: usize,
     /// Numbers on the grid alone, as strict asks.
     on_grid: bool,
+    /// Numbers far from the ends of 32 bits, so that libraries of several cells are accepted, too.
+    near: bool,
     /// Arrays with sines and cosines of no angle.
     any_pair: bool,
 }
@@ -126,6 +125,17 @@ impl Maker<'_> {
         Coordinate::Double { value, unit: 1.0 }
     }
 
+    fn near_coordinate(&mut self) -> Coordinate {
+        let whole = self.random.below(200_001) as i32 - 100_000;
+        if self.random.often(300) {
+            return Coordinate::Integer { value: whole, unit: self.d };
+        }
+        let beside = if self.on_grid { 0.0 } else { self.random.pick(&[0.0, 0.5, -0.5, 0.25, -0.3, 0.001]) };
+        let unit = self.good_unit();
+        let value = (f64::from(whole) + beside) * self.d / unit;
+        Coordinate::Double { value: stepped(value, self.random.pick(&[0, 0, 0, 1, -1])), unit }
+    }
+
     fn coordinate(&mut self) -> Coordinate {
         if self.is_wild() {
             return match self.random.below(3) {
@@ -133,6 +143,9 @@ impl Maker<'_> {
                 1 => Coordinate::Double { value: self.random.unit(), unit: self.bad_unit() },
                 _ => Coordinate::Integer { value: self.random.next() as i32, unit: self.bad_unit() },
             };
+        }
+        if self.near {
+            return self.near_coordinate();
         }
         match self.random.below(20) {
             0 if !self.on_grid => self.tiny_double(),
@@ -231,14 +244,14 @@ impl Maker<'_> {
                     0 => self.random.pick(&[0, 1, 127, 128, 255, 32767, 32768, 65535]),
                     _ => self.random.next() as u16,
                 };
-                let value = self.value();
+                let value = self.record_string();
                 Property { attribute, value }
             })
             .collect()
     }
 
-    /// A property's value: seldom at its limit, since it is long.
-    fn value(&mut self) -> Vec<u8> {
+    /// A property's value or a library's name, which a record limits: seldom at the limit, since it is long.
+    fn record_string(&mut self) -> Vec<u8> {
         if self.random.often(6) {
             return vec![b'v'; self.random.pick(&[65_529, 65_530, 65_531, 65_535])];
         }
@@ -491,7 +504,7 @@ impl Maker<'_> {
         stamp
     }
 
-    fn head(&mut self) -> Head {
+    fn stamps(&mut self) -> [u16; 12] {
         let mut stamps = [0; 12];
         if self.random.often(600) {
             stamps[..6].copy_from_slice(&self.stamp());
@@ -500,8 +513,78 @@ impl Maker<'_> {
                 stamps[..6].fill(0);
             }
         }
+        stamps
+    }
+
+    fn head(&mut self) -> Head {
+        let stamps = self.stamps();
         Head { name: self.name(), stamps }
     }
+
+    /// The head and so many elements.
+    fn cell(&mut self, count: usize) -> Vec<Vec<u8>> {
+        let mut blocks = vec![head_block(&self.head())];
+        for _ in 0..count {
+            blocks.push(element_block(&self.element()));
+        }
+        blocks
+    }
+
+    // ---- libraries
+
+    fn user_unit(&mut self) -> f64 {
+        if self.is_wild() {
+            return match self.random.below(3) {
+                0 => self.bad_unit(),
+                1 => self.odd_double(),
+                _ => end_of_reals(self.random),
+            };
+        }
+        match self.random.below(8) {
+            0 => self.random.pick(&[2f64.powi(-260), stepped(2f64.powi(252), -1)]),
+            1 => encodable(self.random),
+            _ => self.random.pick(&[1e-3, 1e-6, 1.0, 0.1, 2.0, 1e-9, self.d]),
+        }
+    }
+
+    fn library_head(&mut self) -> LibraryHead {
+        let stamps = self.stamps();
+        LibraryHead { name: self.record_string(), user_unit: self.user_unit(), stamps }
+    }
+
+    /// A few cells, in half of the libraries by their names, at times with a name twice. Only one part of the library is wild:
+    /// block 0, or a cell.
+    fn library(&mut self, count: usize) -> (LibraryHead, Vec<Vec<Vec<u8>>>) {
+        let wild = std::mem::replace(&mut self.wild, 0);
+        let wild_part = self.random.between(0, count);
+        let part = |maker: &mut Self, at| maker.wild = if at == wild_part { wild } else { 0 };
+        part(self, 0);
+        let head = self.library_head();
+        let mut cells: Vec<Vec<Vec<u8>>> = Vec::new();
+        for at in 1..=count {
+            part(self, at);
+            let elements = self.random.pick(&[0, 1, 1, 1, 2, 2, 3, 5]);
+            cells.push(self.cell(elements));
+        }
+        if count > 1 && self.random.often(100) {
+            cells[count - 1][0] = cells[0][0].clone();
+        }
+        if self.random.often(500) {
+            cells.sort_by_key(|blocks| head_of(&blocks[0]).map(|head| head.name));
+        }
+        (head, cells)
+    }
+}
+
+/// About the least and the greatest double that an eight-byte real holds.
+fn end_of_reals(random: &mut Random) -> f64 {
+    stepped(random.pick(&[2f64.powi(-260), 2f64.powi(252)]), random.below(5) as i64 - 2)
+}
+
+/// A positive double that an eight-byte real holds.
+fn encodable(random: &mut Random) -> f64 {
+    let size = random.below(512) as i32 - 260;
+    (1.0 + random.unit().abs() / 2.0) * 2f64.powi(size)
 }
 
 // ---- damage
@@ -553,9 +636,13 @@ fn damaged_bytes(random: &mut Random, mut sheet: Vec<u8>) -> Vec<u8> {
 
 // ---- whole inputs
 
+fn no_database_unit(random: &mut Random) -> f64 {
+    random.pick(&[0.0, -0.0, -1.0, f64::NAN, f64::INFINITY, f64::NEG_INFINITY])
+}
+
 fn database_unit(random: &mut Random) -> f64 {
     if random.often(8) {
-        return random.pick(&[0.0, -0.0, -1.0, f64::NAN, f64::INFINITY, f64::NEG_INFINITY]);
+        return no_database_unit(random);
     }
     match random.below(12) {
         0..=3 => 1.0,
@@ -569,23 +656,66 @@ fn database_unit(random: &mut Random) -> f64 {
     }
 }
 
-pub fn input(random: &mut Random, any_pair: bool) -> Input {
-    let policy = if random.often(4) { random.pick(&[4, 5, 128, 255]) } else { random.below(4) as u8 };
-    let d = database_unit(random);
+/// The database unit of a library: it must be encodable, too.
+fn library_database_unit(random: &mut Random) -> f64 {
+    if random.often(8) {
+        return no_database_unit(random);
+    }
+    match random.below(16) {
+        0 => database_unit(random),
+        1 => end_of_reals(random),
+        2 => encodable(random),
+        3..=6 => 1e-9,
+        7 => random.pick(&[2f64.powi(-30), 1e-3, 0.1, 3.0, 1e-6]),
+        _ => 1.0,
+    }
+}
+
+fn policy(random: &mut Random) -> u8 {
+    if random.often(4) { random.pick(&[4, 5, 128, 255]) } else { random.below(4) as u8 }
+}
+
+fn maker(random: &mut Random, policy: u8, d: f64, any_pair: bool) -> Maker<'_> {
     let wild = random.pick(&[0, 0, 0, 0, 0, 12, 12, 40, 250]);
     let on_grid = random.often(if policy == 3 { 850 } else { 150 });
-    let d_for = if d.is_finite() && d > 0.0 { d } else { 1.0 };
-    let count = match random.below(40) {
-        0 => random.between(20, 60),
-        1..=9 => random.between(3, 8),
-        _ => random.between(0, 3),
+    let d = if d.is_finite() && d > 0.0 { d } else { 1.0 };
+    Maker { random, d, wild, on_grid, near: false, any_pair }
+}
+
+pub fn input(random: &mut Random, any_pair: bool) -> Input {
+    let policy = policy(random);
+    let d = database_unit(random);
+    let mut maker = maker(random, policy, d, any_pair);
+    let count = match maker.random.below(40) {
+        0 => maker.random.between(20, 60),
+        1..=9 => maker.random.between(3, 8),
+        _ => maker.random.between(0, 3),
     };
-    let mut maker = Maker { random, d: d_for, wild, on_grid, any_pair };
-    let mut blocks = vec![head_block(&maker.head())];
-    for _ in 0..count {
-        blocks.push(element_block(&maker.element()));
-    }
+    let mut blocks = maker.cell(count);
     let damaged = random.often(200);
     let sheet = if damaged { damage(random, &mut blocks) } else { sheet_of(&blocks) };
-    Input { policy, d, sheet, damaged }
+    Input { job: Job::Cell, policy, d, sheet, damaged }
+}
+
+/// A library; where it is damaged, then a cell's sheet or the library's own.
+pub fn library_input(random: &mut Random) -> Input {
+    let policy = policy(random);
+    let d = library_database_unit(random);
+    let mut maker = maker(random, policy, d, false);
+    maker.near = maker.random.often(700);
+    let count = match maker.random.below(40) {
+        0 => maker.random.between(20, 60),
+        1..=9 => maker.random.between(3, 8),
+        10 | 11 => 0,
+        _ => maker.random.between(1, 3),
+    };
+    let (head, mut cells) = maker.library(count);
+    let damaged = random.often(200);
+    let damaged_cell = if damaged && count > 0 && random.often(500) { Some(random.below(count)) } else { None };
+    let mut blocks = vec![library_head_block(&head)];
+    for (number, cell) in cells.iter_mut().enumerate() {
+        blocks.push(if damaged_cell == Some(number) { damage(random, cell) } else { sheet_of(cell) });
+    }
+    let sheet = if damaged && damaged_cell.is_none() { damage(random, &mut blocks) } else { sheet_of(&blocks) };
+    Input { job: Job::Library, policy, d, sheet, damaged }
 }

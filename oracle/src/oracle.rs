@@ -3,8 +3,12 @@
 mod answer;
 #[cfg(proved)]
 mod compare;
+#[cfg_attr(not(proved), allow(dead_code))]
+mod expected;
 #[cfg(proved)]
 mod generate;
+#[cfg_attr(not(proved), allow(dead_code))]
+mod input;
 mod pairs;
 #[cfg_attr(not(proved), allow(dead_code))]
 mod random;
@@ -16,14 +20,20 @@ mod sheet;
 mod stored;
 
 #[cfg(proved)]
+use input::Job;
+
+#[cfg(proved)]
 fn generated(words: &[String]) -> bool {
-    let number = |at: usize, other: u64| words.get(at).map_or(other, |word| word.parse().expect("a number"));
+    let number = |at: usize, other: u64| words.get(at).map_or(other, |word| word.parse().unwrap_or_else(|_| usage()));
     let seed = number(1, 1);
+    let one = number(2, 0)..number(2, 0) + 1;
     match words.first().map(String::as_str) {
-        Some("--cases") => compare::run(seed, 0..number(2, 100_000), false),
-        Some("--case") => compare::run(seed, number(2, 0)..number(2, 0) + 1, false),
-        Some("--any-pair") => compare::run(seed, 0..number(2, 100_000), true),
-        Some("--any-pair-case") => compare::run(seed, number(2, 0)..number(2, 0) + 1, true),
+        Some("--cases") => compare::run(Job::Cell, seed, 0..number(2, 100_000), false),
+        Some("--case") => compare::run(Job::Cell, seed, one, false),
+        Some("--any-pair") => compare::run(Job::Cell, seed, 0..number(2, 100_000), true),
+        Some("--any-pair-case") => compare::run(Job::Cell, seed, one, true),
+        Some("--libraries") => compare::run(Job::Library, seed, 0..number(2, 20_000), false),
+        Some("--library") => compare::run(Job::Library, seed, one, false),
         Some("--long") => compare::run_long(),
         _ => usage(),
     }
@@ -34,12 +44,13 @@ fn generated(_: &[String]) -> bool {
     usage()
 }
 
-fn usage() -> bool {
+fn usage() -> ! {
     eprintln!("usage: oracle --stored FILE");
     eprintln!("with the static library: oracle --cases [SEED [COUNT]]     oracle --case SEED INDEX");
     eprintln!("                         oracle --any-pair [SEED [COUNT]]  oracle --any-pair-case SEED INDEX");
+    eprintln!("                         oracle --libraries [SEED [COUNT]] oracle --library SEED INDEX");
     eprintln!("                         oracle --long");
-    false
+    std::process::exit(2)
 }
 
 fn main() {

@@ -1,4 +1,5 @@
-//! The cell sheet of document 01: a reader and a writer of our own, with no part of the proved code.
+//! The cell sheet of document 01 and the library sheet of document 02: a reader and a writer of our own, with no part of the
+//! proved code.
 
 pub const MAX_PAIRS: usize = 16_384;
 pub const MAX_SHEET: usize = 16_777_216;
@@ -70,6 +71,13 @@ pub struct Head {
     pub stamps: [u16; 12],
 }
 
+#[derive(Clone, Debug)]
+pub struct LibraryHead {
+    pub name: Vec<u8>,
+    pub user_unit: f64,
+    pub stamps: [u16; 12],
+}
+
 // ---- writing
 
 fn put_string(block: &mut Vec<u8>, string: &[u8]) {
@@ -115,12 +123,24 @@ fn put_turn(block: &mut Vec<u8>, turn: &Turn) {
     block.extend(turn.degrees.to_bits().to_be_bytes());
 }
 
+fn put_stamps(block: &mut Vec<u8>, stamps: &[u16; 12]) {
+    for number in stamps {
+        block.extend(number.to_be_bytes());
+    }
+}
+
 pub fn head_block(head: &Head) -> Vec<u8> {
     let mut block = Vec::new();
     put_string(&mut block, &head.name);
-    for number in head.stamps {
-        block.extend(number.to_be_bytes());
-    }
+    put_stamps(&mut block, &head.stamps);
+    block
+}
+
+pub fn library_head_block(head: &LibraryHead) -> Vec<u8> {
+    let mut block = Vec::new();
+    put_string(&mut block, &head.name);
+    block.extend(head.user_unit.to_bits().to_be_bytes());
+    put_stamps(&mut block, &head.stamps);
     block
 }
 
@@ -223,6 +243,14 @@ impl<'a> Reader<'a> {
         Some(self.take(usize::from(length))?.to_vec())
     }
 
+    fn stamps(&mut self) -> Option<[u16; 12]> {
+        let mut stamps = [0; 12];
+        for number in &mut stamps {
+            *number = self.two()?;
+        }
+        Some(stamps)
+    }
+
     fn at_most(&mut self, greatest: u8) -> Option<u8> {
         self.byte().filter(|byte| *byte <= greatest)
     }
@@ -301,12 +329,14 @@ pub fn blocks_of(sheet: &[u8]) -> Option<Vec<&[u8]>> {
 
 pub fn head_of(block: &[u8]) -> Option<Head> {
     let mut reader = Reader(block);
-    let name = reader.string()?;
-    let mut stamps = [0; 12];
-    for number in &mut stamps {
-        *number = reader.two()?;
-    }
-    reader.whole(Head { name, stamps })
+    let head = Head { name: reader.string()?, stamps: reader.stamps()? };
+    reader.whole(head)
+}
+
+pub fn library_head_of(block: &[u8]) -> Option<LibraryHead> {
+    let mut reader = Reader(block);
+    let head = LibraryHead { name: reader.string()?, user_unit: reader.double()?, stamps: reader.stamps()? };
+    reader.whole(head)
 }
 
 fn body_of(reader: &mut Reader) -> Option<Body> {

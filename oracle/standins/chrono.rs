@@ -76,15 +76,16 @@ impl Timelike for NaiveDateTime {
     }
 }
 
-/// The clock is left out: a run that reaches it stops.
+/// A clock that stands still: writing a library looks at it first, also where it then writes the stamps that were set.
 pub struct Local;
 
 impl Local {
     pub fn now() -> Self {
-        unimplemented!("the clock")
+        Self
     }
 
     pub fn naive_utc(&self) -> NaiveDateTime {
-        unimplemented!("the clock")
+        let date = NaiveDate { year: 1, month: 1, day: 1 };
+        NaiveDateTime { date, hour: 0, minute: 0, second: 0 }
     }
 }
