@@ -250,10 +250,14 @@ impl Maker<'_> {
             .collect()
     }
 
+    fn long_string(&mut self) -> Vec<u8> {
+        vec![b'v'; self.random.pick(&[65_529, 65_530, 65_531, 65_535])]
+    }
+
     /// A property's value or a library's name, which a record limits: seldom at the limit, since it is long.
     fn record_string(&mut self) -> Vec<u8> {
         if self.random.often(6) {
-            return vec![b'v'; self.random.pick(&[65_529, 65_530, 65_531, 65_535])];
+            return self.long_string();
         }
         let wild = std::mem::replace(&mut self.wild, 0);
         let value = self.string(65_530);
@@ -549,7 +553,8 @@ impl Maker<'_> {
 
     fn library_head(&mut self) -> LibraryHead {
         let stamps = self.stamps();
-        LibraryHead { name: self.record_string(), user_unit: self.user_unit(), stamps }
+        let name = if self.is_wild() { self.long_string() } else { self.record_string() };
+        LibraryHead { name, user_unit: self.user_unit(), stamps }
     }
 
     /// A few cells, in half of the libraries by their names, at times with a name twice. Only one part of the library is wild:
