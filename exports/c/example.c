@@ -115,28 +115,39 @@ static int write_array(void) {
     return 0;
 }
 
+struct library_answers {
+    size_t cell, block, length, entries;
+    double greatest;
+};
+
+static void print_answers(const char *what, uint8_t number, const struct library_answers *a) {
+    printf("%s: %d %zu %zu %zu %zu %g\n", what, number, a->cell, a->block, a->length, a->entries, a->greatest);
+}
+
+static uint8_t measure_library(struct library_answers *a, uint8_t policy) {
+    return ravenvanity_measure_library(sheet, used, &a->cell, &a->block, &a->length, &a->entries, &a->greatest, policy, 1);
+}
+
 static int write_library(void) {
     used = 0;
     put_library();
-    size_t cell, block, length, entries;
-    double greatest;
-    uint8_t number = ravenvanity_measure_library(sheet, used, &cell, &block, &length, &entries, &greatest, 0, 1);
-    if (number != 0) {
-        printf("no %d %zu %zu\n", number, cell, block);
+    struct library_answers a;
+    uint8_t number = measure_library(&a, 0);
+    print_answers("library, measured", number, &a);
+    if (number != 0)
         return 1;
-    }
-    size_t out_length = length, report_length = entries * RAVENVANITY_LIBRARY_ENTRY_LENGTH;
-    uint8_t *out = malloc(out_length), *report = malloc(report_length + 1);
+    size_t length = a.length, report_length = a.entries * RAVENVANITY_LIBRARY_ENTRY_LENGTH;
+    uint8_t *out = malloc(length), *report = malloc(report_length + 1);
     if (!out || !report)
         return 1;
-    number = ravenvanity_write_library(sheet, used, out, out_length, report, report_length, &cell, &block, &length, &entries, &greatest, 0, 1);
-    printf("library: %d %zu %zu %g\n", number, length, entries, greatest);
+    number = ravenvanity_write_library(sheet, used, out, length, report, report_length, &a.cell, &a.block, &a.length, &a.entries, &a.greatest, 0, 1);
+    print_answers("library", number, &a);
     print_hex(out, length);
     print_hex(report, report_length);
-    number = ravenvanity_write_library(sheet, used, out, out_length, report, 0, &cell, &block, &length, &entries, &greatest, 0, 1);
-    printf("library without a report: %d, %s\n", number, cell == RAVENVANITY_NO_CELL ? "outside a cell" : "in a cell");
-    number = ravenvanity_measure_library(sheet, used, &cell, &block, &length, &entries, &greatest, 3, 1);
-    printf("library, strict: %d in cell %zu, block %zu\n", number, cell, block);
+    number = ravenvanity_write_library(sheet, used, out, length, report, 0, &a.cell, &a.block, &a.length, &a.entries, &a.greatest, 0, 1);
+    print_answers(a.cell == RAVENVANITY_NO_CELL ? "no room for a report, outside a cell" : "no room for a report", number, &a);
+    number = measure_library(&a, 3);
+    print_answers("strict", number, &a);
     free(out), free(report);
     return 0;
 }
