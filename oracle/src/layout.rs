@@ -5,19 +5,29 @@ use crate::sheet::{self, Body, Coordinate, Element, Place, Property, Turn};
 pub const D: f64 = 1e-9;
 const MICRO: f64 = 1e-6;
 
-fn off_grid(random: &mut Random, reach: f64) -> Coordinate {
+fn within(random: &mut Random, reach: f64) -> Coordinate {
     Coordinate::Double { value: random.unit() * reach, unit: MICRO }
+}
+
+pub fn off_grid(random: &mut Random) -> Coordinate {
+    within(random, 1e3)
 }
 
 fn whole(random: &mut Random) -> i32 {
     random.below(2_000_001) as i32 - 1_000_000
 }
 
-fn on_grid(random: &mut Random) -> Coordinate {
+/// Whole nanometres, given in micrometres: the quotient by d is at times two steps from them, and an entry due.
+pub fn micrometres(random: &mut Random) -> Coordinate {
+    Coordinate::Double { value: f64::from(whole(random)) / 1e3, unit: MICRO }
+}
+
+/// Whole nanometres, given in nanometres.
+pub fn nanometres(random: &mut Random) -> Coordinate {
     Coordinate::Double { value: f64::from(whole(random)), unit: D }
 }
 
-fn integer(random: &mut Random) -> Coordinate {
+pub fn integer(random: &mut Random) -> Coordinate {
     Coordinate::Integer { value: whole(random), unit: D }
 }
 
@@ -32,28 +42,20 @@ fn polygon(points: Vec<Place>) -> Element {
 }
 
 pub fn long_polygon(random: &mut Random, doubles: bool) -> Vec<Element> {
-    let points = closed(8191, || if doubles { off_grid(random, 1e5) } else { integer(random) });
+    let points = closed(8191, || if doubles { within(random, 1e5) } else { integer(random) });
     vec![polygon(points)]
 }
 
 /// Of 5 points.
-pub fn small_polygon(random: &mut Random) -> Element {
-    polygon(closed(5, || off_grid(random, 1e3)))
-}
-
-pub fn small_polygon_on_grid(random: &mut Random) -> Element {
-    polygon(closed(5, || on_grid(random)))
-}
-
-pub fn small_polygon_of_integers(random: &mut Random) -> Element {
-    polygon(closed(5, || integer(random)))
+pub fn small_polygon(random: &mut Random, coordinate: fn(&mut Random) -> Coordinate) -> Element {
+    polygon(closed(5, || coordinate(random)))
 }
 
 pub fn turned_array(random: &mut Random) -> Element {
     let angle = random.unit() * 3.0;
     let (sine, cosine) = angle.sin_cos();
     let degrees = gdsr::Radians::new(angle).to_degrees().value();
-    let mut place = |reach| [off_grid(random, reach), off_grid(random, reach)];
+    let mut place = |reach| [within(random, reach), within(random, reach)];
     let (origin, spacings) = (place(1e3), [Some(place(10.0)), Some(place(10.0))]);
     let counts = [2 + random.below(100) as u32, 2 + random.below(100) as u32];
     let turn = Turn { reflection: false, magnification: 1.5, degrees };
@@ -64,7 +66,7 @@ pub fn turned_array(random: &mut Random) -> Element {
 pub fn text(random: &mut Random) -> Element {
     let property = |attribute| Property { attribute, value: b"a value of a property".to_vec() };
     let turn = Turn { reflection: true, magnification: 2.0, degrees: 90.0 };
-    let origin = [off_grid(random, 1e3), off_grid(random, 1e3)];
+    let origin = [off_grid(random), off_grid(random)];
     let body = Body::Text { layer: 3, text_type: 4, presentation: [1, 2], turn, origin, value: b"a label of a pin".to_vec() };
     Element { body, properties: vec![property(1), property(2), property(3)] }
 }
@@ -81,9 +83,9 @@ pub fn mixed_element(random: &mut Random, index: usize) -> Element {
         0 => text(random),
         1 => turned_array(random),
         2 | 3 => path(random),
-        4 => small_polygon(random),
+        4 => small_polygon(random, off_grid),
         5 => polygon(closed(120, || integer(random))),
-        _ => polygon(closed(120, || off_grid(random, 1e3))),
+        _ => polygon(closed(120, || off_grid(random))),
     }
 }
 

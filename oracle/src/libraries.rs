@@ -17,7 +17,7 @@ mod sheet;
 mod timing;
 
 use answer::{GdsrCell, GdsrLibrary};
-use layout::{D, filled, mixed_element, small_polygon, small_polygon_of_integers, small_polygon_on_grid};
+use layout::{D, filled, integer, micrometres, mixed_element, nanometres, off_grid, small_polygon};
 use random::Random;
 use sheet::{Element, Head, LibraryHead};
 use std::hint::black_box;
@@ -62,7 +62,7 @@ fn shared(count: usize, mut element: impl FnMut(usize) -> Element) -> Given {
 
 /// So many cells of 4 polygons each: the most pairs that a sheet has leave room for no more.
 fn of_one_size(random: &mut Random, count: usize) -> Given {
-    given((0..count).map(|_| (0..4).map(|_| small_polygon(random)).collect()))
+    given((0..count).map(|_| (0..4).map(|_| small_polygon(random, off_grid)).collect()))
 }
 
 // ---- the two writers
@@ -142,9 +142,10 @@ fn compare(what: &str, given: &Given) {
 fn main() {
     let mut random = Random::of_case(1, 0);
     println!("milliseconds of one call: the median of {ROUNDS} rounds, with the least and the greatest");
-    compare("polygons of 5 points, doubles off the grid", &shared(1_000, |_| small_polygon(&mut random)));
-    compare("polygons of 5 points, doubles on the grid", &shared(1_000, |_| small_polygon_on_grid(&mut random)));
-    compare("polygons of 5 points, integers", &shared(1_000, |_| small_polygon_of_integers(&mut random)));
+    compare("polygons of 5 points, doubles off the grid", &shared(1_000, |_| small_polygon(&mut random, off_grid)));
+    compare("polygons of 5 points, whole nanometres in micrometres", &shared(1_000, |_| small_polygon(&mut random, micrometres)));
+    compare("polygons of 5 points, whole nanometres as doubles", &shared(1_000, |_| small_polygon(&mut random, nanometres)));
+    compare("polygons of 5 points, integers", &shared(1_000, |_| small_polygon(&mut random, integer)));
     compare("mixed elements", &shared(1_000, |at| mixed_element(&mut random, at)));
     for count in [125, 250, 500, 1_000, 16_383] {
         compare("4 polygons of 5 points each", &of_one_size(&mut random, count));
