@@ -4,8 +4,8 @@
     python3 tools/own_cases.py > target/own_cases.txt
 
 A case is a comment line with its reason, then a line in the form that tools/pack_cases.py takes. Answers come from
-tools/model.py. What a sheet of 24,576 bytes cannot reach is not here: refusal 3, 8,191 points, a property value of
-65,530 bytes, 16,384 pairs, a library name of 65,530 bytes (25), a file of 65,536 bytes (21 of a library).
+tools/model.py. What a cell sheet of 24,576 bytes cannot reach is not here: refusal 3, 8,191 points, a property value of
+65,530 bytes, 16,384 pairs.
 """
 import math
 import random
@@ -627,6 +627,9 @@ def library_names():
     for name in (b"\0", b"A\0", b"AB\0", b"\0\0", b"\0A", "größer".encode(), b"\xff\xfe\x80", b'" \\\n-.', bytes(range(256))):
         yield f"a library name of bytes {name[:4].hex()}..", library(sheet(), name=name)
     yield "a library and its cell of one name", library(sheet(name=b"LIB"))
+    for n, what in ((65474, "a file of 65,536 bytes"), (65530, "21, not 25")):
+        yield f"a library name of {n} bytes: {what}", library(name=b"n" * n)
+    yield "a library name of 65531 bytes: 25, before a cell's 4", library(NO_SHEET, name=b"n" * 65531)
 
 
 # ---- libraries: their cells

@@ -10,9 +10,8 @@ a library's are alike, but a refusal has the cell before the block, an entry has
 
 The pack, numbers with the highest byte first; for each case:
 
-    1  0 for a cell, 1 for a library
     4  n, the length of the input
-    n  the input: policy byte, d in 8 bytes, sheet
+    n  the input: the job (0 for a cell, 1 for a library), policy byte, d in 8 bytes, sheet
     4  m, the length of the answer
     m  the answer, whose first byte is 0 where refused and 1 where accepted, then
   refused:
@@ -26,7 +25,8 @@ The pack, numbers with the highest byte first; for each case:
     k  the structure or the file
   33e  the entries; of a library 37e
 
-Inputs under 9 bytes or with a sheet over 24,576 bytes get no answer from the program: they are left out and counted.
+A cell's input under 9 bytes or with a sheet over 24,576 bytes gets no answer from the program `structure`: it is left out
+and counted, and so is a library's input under 9 bytes.
 """
 import argparse
 import struct
@@ -36,7 +36,7 @@ from model import CELL, LIBRARY, case_of
 from sheet import plain
 
 SHORTEST, LONGEST_SHEET = 9, 24576
-TAGS = {CELL: 0, LIBRARY: 1}
+JOBS = {CELL: b"\0", LIBRARY: b"\1"}
 ENTRY = {CELL: 33, LIBRARY: 37}
 PLACES = {CELL: ("a block", ">BBI"), LIBRARY: ("a cell and a block", ">BBII")}
 
@@ -66,14 +66,14 @@ def packed(line):
     """The bytes of a case, or None where the program gives no answer."""
     _, job, given, printed = case_of(line)
     given = b"" if given == "-" else bytes.fromhex(given)
-    if len(given) < SHORTEST or len(given) - SHORTEST > LONGEST_SHEET:
+    if len(given) < SHORTEST or (job == CELL and len(given) - SHORTEST > LONGEST_SHEET):
         return None
     lines = printed.split("|")
     first = lines[0].split(" ")
     if first[0] not in ("ok", "no"):
         raise Bad(f"an answer starts with `ok` or `no`, not `{first[0]}`")
     known = (accepted_bytes if first[0] == "ok" else refused_bytes)(job, first, lines)
-    return struct.pack(">BI", TAGS[job], len(given)) + given + struct.pack(">I", len(known)) + known
+    return struct.pack(">I", 1 + len(given)) + JOBS[job] + given + struct.pack(">I", len(known)) + known
 
 
 def pack(path):
