@@ -43,52 +43,66 @@ totals-front n k g w (written ws) =
     let b : k + (length (w .entries) + entriesIn ws) ≡ k + length (w .entries) + entriesIn ws = omega arith in
     ap₂ (λ (x y : ℕ). L.Accepted x y (greatestIn (larger g (greatestFrom zero64 (w .entries))) ws)) a b
 
--- ---- what is left to measure from cell k - 1 on, after len bytes, m entries and a greatest error g
+-- ---- the cells from cell c of m on
 
-module _ (policy : GdsRoundingPolicy) (d : Float) (s : List ℕ) (n : ℕ) where
+-- cell c is block c + 1: it, and those after it
+pub cells-turn : (m c : ℕ) (s : List ℕ) → c < m → blocksFrom (m - c) (c + 1) s ≡ blockOf s (c + 1) ∷ blocksFrom (m - (c + 1)) (c + 1 + 1) s
+cells-turn m c s h =
+    let z : m + 1 - (c + 1) ≡ m - c = omega arith in
+    let y : m + 1 - (c + 1 + 1) ≡ m - (c + 1) = omega arith in
+    ap (λ (j : ℕ). blocksFrom j (c + 1) s) (sym z) ∙ blocks-turn (m + 1) (c + 1) s (omega arith) ∙ ap (λ (j : ℕ). blockOf s (c + 1) ∷ blocksFrom j (c + 1 + 1) s) y
+
+pub cells-end : (m c : ℕ) (s : List ℕ) → m ≤ c → blocksFrom (m - c) (c + 1) s ≡ []
+cells-end m c s h =
+    let z : m + 1 - (c + 1) ≡ m - c = omega arith in
+    ap (λ (j : ℕ). blocksFrom j (c + 1) s) (sym z) ∙ blocks-end (m + 1) (c + 1) s (omega arith)
+
+-- ---- what is left to measure from cell c on, after len bytes, k entries and a greatest error g
+
+module _ (policy : GdsRoundingPolicy) (d : Float) (s : List ℕ) (m : ℕ) where
   abbrev pub left : ℕ → ℕ → ℕ → Float → LibraryAnswer
-  left k len m g = totalsFrom len m g (writeCells policy d (k - 1) (blocksFrom (n - k) k s))
+  left c len k g = totalsFrom len k g (writeCells policy d c (blocksFrom (m - c) (c + 1) s))
 
-  pub left-start : (len : ℕ) → n ≡ pairCount s → totalsFrom len 0 zero64 (writeCells policy d 0 (cellSheets s)) ≡ left 1 len 0 zero64
-  left-start len e = ap (λ (j : ℕ). totalsFrom len 0 zero64 (writeCells policy d 0 (blocksFrom (j - 1) 1 s))) (sym e)
+  pub left-start : (len : ℕ) → m ≡ pairCount s - 1 → totalsFrom len 0 zero64 (writeCells policy d 0 (cellSheets s)) ≡ left 0 len 0 zero64
+  left-start len e = let z : pairCount s - 1 ≡ m - 0 = omega arith in ap (λ (j : ℕ). totalsFrom len 0 zero64 (writeCells policy d 0 (blocksFrom j 1 s))) z
 
-  pub left-end : (k len m : ℕ) (g : Float) → n ≤ k → left k len m g ≡ L.Accepted len m g
+  pub left-end : (c len k : ℕ) (g : Float) → m ≤ c → left c len k g ≡ L.Accepted len k g
   unfolding totalsFrom writeCells cellsBytes entriesIn greatestIn
-  left-end k len m g h =
-      ap (λ (bs : List (List ℕ)). totalsFrom len m g (writeCells policy d (k - 1) bs)) (blocks-end n k s h)
-      ∙ ap₂ (λ (x y : ℕ). L.Accepted x y g) (add-zero len) (add-zero m)
+  left-end c len k g h =
+      ap (λ (bs : List (List ℕ)). totalsFrom len k g (writeCells policy d c bs)) (cells-end m c s h)
+      ∙ ap₂ (λ (x y : ℕ). L.Accepted x y g) (add-zero len) (add-zero k)
 
   -- r is the answer on the cell's sheet b
-  module _ (k len m : ℕ) (g : Float) {b : List ℕ} {r : Answer} (from : 1 ≤ k) (h : k < n) (e : b ≡ blockOf s k) (f : r ≡ CA.answerOf (writeSheet policy d b)) where
+  module _ (c len k : ℕ) (g : Float) {b : List ℕ} {r : Answer} (h : c < m) (e : b ≡ blockOf s (c + 1)) (f : r ≡ CA.answerOf (writeSheet policy d b)) where
     abbrev others : List (List ℕ)
-    others = blocksFrom (n - (k + 1)) (k + 1) s
+    others = blocksFrom (m - (c + 1)) (c + 1 + 1) s
 
-    by : left k len m g ≡ totalsFrom len m g (writeCells policy d (k - 1) (b ∷ others))
-    by = ap (λ (bs : List (List ℕ)). totalsFrom len m g (writeCells policy d (k - 1) bs)) (blocks-turn n k s h ∙ ap (λ (c : List ℕ). c ∷ others) (sym e))
+    by : left c len k g ≡ totalsFrom len k g (writeCells policy d c (b ∷ others))
+    by = ap (λ (bs : List (List ℕ)). totalsFrom len k g (writeCells policy d c bs)) (cells-turn m c s h ∙ ap (λ (x : List ℕ). x ∷ others) (sym e))
 
-    pub left-stop : (x : Refusal) (j : ℕ) → r ≡ A.Refused x j → left k len m g ≡ L.Refused x (k - 1) j
+    pub left-stop : (x : Refusal) (j : ℕ) → r ≡ A.Refused x j → left c len k g ≡ L.Refused x c j
     unfolding totalsFrom
     left-stop x j q = go (writeSheet policy d b) refl (sym f ∙ q)
       where
-        go : (y : C.Result Structure) → writeSheet policy d b ≡ y → CA.answerOf y ≡ A.Refused x j → left k len m g ≡ L.Refused x (k - 1) j
+        go : (y : C.Result Structure) → writeSheet policy d b ≡ y → CA.answerOf y ≡ A.Refused x j → left c len k g ≡ L.Refused x c j
         go (C.stopped z i) p w =
             let a : z ≡ x = cc in
-            let c : i ≡ j = cc in
-            by ∙ ap (totalsFrom len m g) (walk-refused policy d (k - 1) b others z i p) ∙ ap₂ (λ (y : Refusal) (i : ℕ). L.Refused y (k - 1) i) a c
+            let n : i ≡ j = cc in
+            by ∙ ap (totalsFrom len k g) (walk-refused policy d c b others z i p) ∙ ap₂ (λ (y : Refusal) (i : ℕ). L.Refused y c i) a n
         go (C.written t es) p w = let z : _≡_ {A = ℕ} 0 1 = cc in absurd (omega arith)
 
-    pub left-turn : (size entries : ℕ) (error : Float) → r ≡ A.Accepted size entries error → left k len m g ≡ left (k + 1) (len + size) (m + entries) (larger g error)
+    pub left-turn : (size entries : ℕ) (error : Float) → r ≡ A.Accepted size entries error → left c len k g ≡ left (c + 1) (len + size) (k + entries) (larger g error)
     left-turn size entries error q = go (writeSheet policy d b) refl (sym f ∙ q)
       where
-        go : (y : C.Result Structure) → writeSheet policy d b ≡ y → CA.answerOf y ≡ A.Accepted size entries error → left k len m g ≡ left (k + 1) (len + size) (m + entries) (larger g error)
+        go : (y : C.Result Structure) → writeSheet policy d b ≡ y → CA.answerOf y ≡ A.Accepted size entries error → left c len k g ≡ left (c + 1) (len + size) (k + entries) (larger g error)
         go (C.stopped x i) p w = let z : _≡_ {A = ℕ} 0 1 = cc in absurd (omega arith)
         go (C.written t es) p w =
             let a : length (structureBytes t) ≡ size = cc in
-            let c : length es ≡ entries = cc in
+            let n : length es ≡ entries = cc in
             let u : greatestFrom zero64 es ≡ error = cc in
-            let z : suc (k - 1) ≡ k + 1 - 1 = omega arith in
+            let z : suc c ≡ c + 1 = omega arith in
             by
-            ∙ ap (totalsFrom len m g) (walk-written policy d (k - 1) b others t es p)
-            ∙ totals-front len m g (record { structure = t; entries = es }) (writeCells policy d (suc (k - 1)) others)
-            ∙ ap₂ (λ (x y : ℕ). totalsFrom (len + x) (m + y) (larger g (greatestFrom zero64 es)) (writeCells policy d (suc (k - 1)) others)) a c
-            ∙ ap₂ (λ (x : Float) (i : ℕ). totalsFrom (len + size) (m + entries) (larger g x) (writeCells policy d i others)) u z
+            ∙ ap (totalsFrom len k g) (walk-written policy d c b others t es p)
+            ∙ totals-front len k g (record { structure = t; entries = es }) (writeCells policy d (suc c) others)
+            ∙ ap₂ (λ (x y : ℕ). totalsFrom (len + x) (k + y) (larger g (greatestFrom zero64 es)) (writeCells policy d (suc c) others)) a n
+            ∙ ap₂ (λ (x : Float) (i : ℕ). totalsFrom (len + size) (k + entries) (larger g x) (writeCells policy d i others)) u z

@@ -14,13 +14,14 @@ use Rattle.big_endian.proofs.RowLaws.{Row, row-start, row-turn, row-end}
 use Rattle.conversion.specs.declared.GdsRoundingPolicy.{GdsRoundingPolicy}
 use Rattle.conversion.specs.Entry.{reportWith}
 use Rattle.sheet.specs.Blocks.{maxPairs, pairCount, pairsFit, blockOf, blocksFrom}
-use Rattle.sheet.proofs.CountLaws.{pairs-count, blocks-turn, blocks-end}
+use Rattle.sheet.proofs.CountLaws.{pairs-count}
 use Rattle.cell.specs.Cell.{structureBytes}
 use Rattle.walk.specs.declared.Ends.{Ends}
 use Rattle.walk.specs.code.Walk.{StructureFits, PutsStructure}
 use Rattle.library.specs.Library.{written, WrittenCell, writeCells, cellsBytes, reportFrom}
 use Rattle.library.proofs.CellsLaws.{Split, split}
 use Rattle.write_library.specs.code.File.{CellsFit, PutsCells}
+use Rattle.write_library.proofs.CellsLaws.{cells-turn, cells-end}
 
 -- ---- a cell's number
 
@@ -32,47 +33,44 @@ number-put v {r} {before} l w =
     let e : drop (length (bytesOf 4 v)) before ≡ [] = drop-of-length-le before {i = length (bytesOf 4 v)} (omega arith) in
     from-zero w .out ∙ ap (λ (t : List ℕ). bytesOf 4 v ++ t) e ∙ append-nil (bytesOf 4 v)
 
--- ---- all cells in turn: the state before block k of n, whose cell is k - 1
+-- ---- all cells in turn: the state before cell c of m
 
-pub record Turns (policy : GdsRoundingPolicy) (d : Float) (sheet before report : List ℕ) (n : ℕ) (out after : List ℕ) (k to at : ℕ) : Type 0 where
-  pub first : 1 ≤ k
-  pub within : k ≤ n
-  pub count : n ≡ pairCount sheet
-  pub most : n ≤ maxPairs
+pub record Turns (policy : GdsRoundingPolicy) (d : Float) (sheet before report : List ℕ) (m : ℕ) (out after : List ℕ) (c to at : ℕ) : Type 0 where
+  pub within : c ≤ m
+  pub most : m < maxPairs
   pub fit : CellsFit policy d sheet (length before) (length report)
   pub rest : List WrittenCell
-  pub writes : writeCells policy d (k - 1) (blocksFrom (n - k) k sheet) ≡ written rest
+  pub writes : writeCells policy d c (blocksFrom (m - c) (c + 1) sheet) ≡ written rest
   pub output : Row 0 (cellsBytes (fit .cells)) before to (cellsBytes rest) out
-  pub entries : Row 0 (reportFrom 0 (fit .cells)) report at (reportFrom (k - 1) rest) after
+  pub entries : Row 0 (reportFrom 0 (fit .cells)) report at (reportFrom c rest) after
 
-module _ {policy : GdsRoundingPolicy} {d : Float} {sheet before report : List ℕ} {n : ℕ} where
-  pub turns-start : T (pairsFit sheet) → n ≡ pairCount sheet → CellsFit policy d sheet (length before) (length report) → Turns policy d sheet before report n before report 1 0 0
+module _ {policy : GdsRoundingPolicy} {d : Float} {sheet before report : List ℕ} {m : ℕ} where
+  pub turns-start : T (pairsFit sheet) → m ≡ pairCount sheet - 1 → CellsFit policy d sheet (length before) (length report) → Turns policy d sheet before report m before report 0 0 0
   turns-start p e f =
       let c = pairs-count sheet p in
       let l = c .least in
-      let m = c .most in
+      let o = c .most in
+      let z : m - 0 ≡ pairCount sheet - 1 = omega arith in
       record {
-        first = omega arith;
         within = omega arith;
-        count = e;
         most = omega arith;
         fit = f;
         rest = f .cells;
-        writes = ap (λ (j : ℕ). writeCells policy d 0 (blocksFrom (j - 1) 1 sheet)) e ∙ f .writes;
+        writes = ap (λ (j : ℕ). writeCells policy d 0 (blocksFrom j 1 sheet)) z ∙ f .writes;
         output = row-start;
         entries = row-start;
       }
 
-module _ {policy : GdsRoundingPolicy} {d : Float} {sheet before report : List ℕ} {n : ℕ} {out after : List ℕ} {k to at : ℕ}
-    (t : Turns policy d sheet before report n out after k to at) where
-  pub turns-end : n ≤ k → PutsCells policy d sheet before report out after (record { out = to; report = at })
+module _ {policy : GdsRoundingPolicy} {d : Float} {sheet before report : List ℕ} {m : ℕ} {out after : List ℕ} {c to at : ℕ}
+    (t : Turns policy d sheet before report m out after c to at) where
+  pub turns-end : m ≤ c → PutsCells policy d sheet before report out after (record { out = to; report = at })
   unfolding writeCells cellsBytes reportFrom
   turns-end l =
       let f = t .fit in
-      let w = ap (writeCells policy d (k - 1)) (sym (blocks-end n k sheet l)) ∙ t .writes in
+      let w = ap (writeCells policy d c) (sym (cells-end m c sheet l)) ∙ t .writes in
       let none : t .rest ≡ [] = cc w in
       let o = row-end (from-start (f .out-room)) (subst (λ (ws : List WrittenCell). Row 0 (cellsBytes (f .cells)) before to (cellsBytes ws) out) none (t .output)) in
-      let e = row-end (from-start (f .report-room)) (subst (λ (ws : List WrittenCell). Row 0 (reportFrom 0 (f .cells)) report at (reportFrom (k - 1) ws) after) none (t .entries)) in
+      let e = row-end (from-start (f .report-room)) (subst (λ (ws : List WrittenCell). Row 0 (reportFrom 0 (f .cells)) report at (reportFrom c ws) after) none (t .entries)) in
       record {
         output = λ ws g. let a : f .cells ≡ ws = cc (f .writes, g) in from-zero (same-bytes (ap cellsBytes a) o);
         entries = λ ws g. let a : f .cells ≡ ws = cc (f .writes, g) in from-zero (same-bytes (ap (reportFrom 0) a) e);
@@ -87,25 +85,22 @@ module _ {policy : GdsRoundingPolicy} {d : Float} {sheet before report : List �
   pub report-same : length after ≡ length report
   report-same = t .entries .long
 
-  -- the number of the cell fits its 4 bytes
-  pub number-small : k - 1 < 16384
-  number-small = let a = t .first in let b = t .within in let c = t .most in omega arith
-
-  module _ (h : k < n) {b : List ℕ} (is : b ≡ blockOf sheet k) where
+  -- b is the sheet of cell c
+  module _ (h : c < m) {b : List ℕ} (is : b ≡ blockOf sheet (c + 1)) where
     abbrev others : List (List ℕ)
-    others = blocksFrom (n - (k + 1)) (k + 1) sheet
+    others = blocksFrom (m - (c + 1)) (c + 1 + 1) sheet
 
-    abbrev here : Split policy d (k - 1) b others (t .rest)
+    abbrev here : Split policy d c b others (t .rest)
     here =
-        split policy d (k - 1) b others (t .rest)
-        (ap (writeCells policy d (k - 1)) (sym (blocks-turn n k sheet h ∙ ap (λ (l : List ℕ). l ∷ others) (sym is))) ∙ t .writes)
+        split policy d c b others (t .rest)
+        (ap (writeCells policy d c) (sym (cells-turn m c sheet h ∙ ap (λ (l : List ℕ). l ∷ others) (sym is))) ∙ t .writes)
 
     -- the cell's bytes and entries
     abbrev bytes : List ℕ
     bytes = structureBytes (here .first .structure)
 
     abbrev lead : List ℕ
-    lead = bytesOf 4 (k - 1)
+    lead = bytesOf 4 c
 
     abbrev told : List ℕ
     told = reportWith lead (here .first .entries)
@@ -114,14 +109,14 @@ module _ {policy : GdsRoundingPolicy} {d : Float} {sheet before report : List �
     unfolding cellsBytes
     bytes-first = ap cellsBytes (here .cells)
 
-    told-first : reportFrom (k - 1) (t .rest) ≡ told ++ reportFrom (suc (k - 1)) (here .rest)
+    told-first : reportFrom c (t .rest) ≡ told ++ reportFrom (suc c) (here .rest)
     unfolding reportFrom
-    told-first = ap (reportFrom (k - 1)) (here .cells)
+    told-first = ap (reportFrom c) (here .cells)
 
     out-room : to + length bytes ≤ length out
     out-room =
         let a = t .output .end in
-        let c = t .output .long in
+        let n = t .output .long in
         let e = ap length bytes-first ∙ length-append bytes (cellsBytes (here .rest)) in
         let f = t .fit .out-room in
         omega arith
@@ -129,8 +124,8 @@ module _ {policy : GdsRoundingPolicy} {d : Float} {sheet before report : List �
     report-room : at + length told ≤ length after
     report-room =
         let a = t .entries .end in
-        let c = t .entries .long in
-        let e = ap length told-first ∙ length-append told (reportFrom (suc (k - 1)) (here .rest)) in
+        let n = t .entries .long in
+        let e = ap length told-first ∙ length-append told (reportFrom (suc c) (here .rest)) in
         let f = t .fit .report-room in
         omega arith
 
@@ -150,7 +145,7 @@ module _ {policy : GdsRoundingPolicy} {d : Float} {sheet before report : List �
     pub turn-fits : StructureFits policy d b lead (length part) (length share)
     turn-fits =
         let a = out-room in
-        let c = report-room in
+        let e = report-room in
         record {
           structure = here .first .structure;
           entries = here .first .entries;
@@ -168,10 +163,10 @@ module _ {policy : GdsRoundingPolicy} {d : Float} {sheet before report : List �
       noted = p .entries (here .first .structure) (here .first .entries) (here .writes)
 
       pub turn-end : to + r .out ≤ length out
-      turn-end = let a = out-room in let c = done .count in omega arith
+      turn-end = let a = out-room in let e = done .count in omega arith
 
       pub turn-noted : at + r .report ≤ length after
-      turn-noted = let a = report-room in let c = noted .count in omega arith
+      turn-noted = let a = report-room in let e = noted .count in omega arith
 
       -- both buffers, with the parts come back
       abbrev whole : List ℕ
@@ -180,13 +175,11 @@ module _ {policy : GdsRoundingPolicy} {d : Float} {sheet before report : List �
       abbrev whole-report : List ℕ
       whole-report = take at after ++ (share′ ++ drop (length after - at) (drop at after))
 
-      pub turn-next : Turns policy d sheet before report n whole whole-report (k + 1) (to + r .out) (at + r .report)
+      pub turn-next : Turns policy d sheet before report m whole whole-report (c + 1) (to + r .out) (at + r .report)
       turn-next =
-          let z : suc (k - 1) ≡ k + 1 - 1 = index k (t .first) in
+          let z : suc c ≡ c + 1 = omega arith in
           record {
-            first = omega arith;
             within = omega arith;
-            count = t .count;
             most = t .most;
             fit = t .fit;
             rest = here .rest;
@@ -196,6 +189,3 @@ module _ {policy : GdsRoundingPolicy} {d : Float} {sheet before report : List �
                 subst (λ (j : ℕ). Row 0 (reportFrom 0 (t .fit .cells)) report (at + r .report) (reportFrom j (here .rest)) whole-report) z
                 (row-turn (subst (λ (l : List ℕ). Row 0 (reportFrom 0 (t .fit .cells)) report at l after) told-first (t .entries)) (part-at turn-report noted));
           }
-        where
-          index : (k : ℕ) → 1 ≤ k → suc (k - 1) ≡ k + 1 - 1
-          index k h = omega arith

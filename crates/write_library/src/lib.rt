@@ -42,7 +42,7 @@ fn larger(x: f64, y: f64) -> f64
     x
 }
 
-// Every cell in turn, on top of the bytes that the file has besides.
+// Every cell in turn, on top of the bytes that the file has besides: cell c is block c + 1.
 fn measure_cells(converter: CoordinateConverter, sheet: &[u8], front: usize) -> LibraryAnswer
     requires { ⌜ length (now sheet) ≤ maxSheetLength ⌝ }
     requires { ⌜ T (pairsFit (now sheet)) ⌝ }
@@ -50,18 +50,18 @@ fn measure_cells(converter: CoordinateConverter, sheet: &[u8], front: usize) -> 
     ensures { λ r. ⌜ r ≡ totalsFrom front 0 zero64 (writeCells (converter .policy) (converter .d) 0 (cellSheets (now (sheet .entry)))) ⌝ }
     ensures { λ r. ⌜ FewEntries r ⌝ }
 {
-    let n = big_endian::u32_at(sheet, 0) as usize;
-    let mut k: usize = 1;
+    let cells = big_endian::u32_at(sheet, 0) as usize - 1;
+    let mut cell: usize = 0;
     let mut length: usize = front;
     let mut entries: usize = 0;
     let mut greatest: f64 = 0.0;
-    while k < n {
-        let b = sheet::block(sheet, k);
-        match walk::measure_sheet(converter, b) {
+    while cell < cells {
+        let next = cell + 1;
+        match walk::measure_sheet(converter, sheet::block(sheet, next)) {
             Answer::Refused { refusal, block } => {
                 return LibraryAnswer::Refused {
                     refusal,
-                    cell: k - 1,
+                    cell,
                     block,
                 };
             }
@@ -75,7 +75,7 @@ fn measure_cells(converter: CoordinateConverter, sheet: &[u8], front: usize) -> 
                 greatest = larger(greatest, g);
             }
         }
-        k = k + 1;
+        cell = next;
     }
     LibraryAnswer::Accepted {
         length,
@@ -158,17 +158,17 @@ fn put_cells(
     requires { ⌜ CellsFit (converter .policy) (converter .d) (now sheet) (length (now out)) (length (now report)) ⌝ }
     ensures { λ r. ⌜ PutsCells (converter .policy) (converter .d) (now (sheet .entry)) (now (out .entry)) (now (report .entry)) (now (out .exit)) (now (report .exit)) r ⌝ }
 {
-    let n = big_endian::u32_at(sheet, 0) as usize;
-    let mut next: usize = 1;
+    let cells = big_endian::u32_at(sheet, 0) as usize - 1;
+    let mut cell: usize = 0;
     let mut to: usize = 0;
     let mut at: usize = 0;
-    while next < n {
+    while cell < cells {
+        let next = cell + 1;
         let b = sheet::block(sheet, next);
-        let cell = (next - 1) as u32;
-        let ends = put_cell(converter, b, cell, &mut out[to..], &mut report[at..]);
+        let ends = put_cell(converter, b, cell as u32, &mut out[to..], &mut report[at..]);
         to = to + ends.out;
         at = at + ends.report;
-        next = next + 1;
+        cell = next;
     }
     Ends {
         out: to,

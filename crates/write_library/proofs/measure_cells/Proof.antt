@@ -24,60 +24,69 @@ use Rattle.write_library.proofs.measure_cells.Tie as tie
 abbrev most : ℕ
 most = 68 + maxPairs * (84 + 4 * maxSheetLength)
 
-record Inv (policy : GdsRoundingPolicy) (d : Float) (sheet : List ℕ) (front n k size entries : ℕ) (greatest : Float) : Type 0 where
-  from : 1 ≤ k
-  to : k ≤ n
-  small : size + most ≤ maxFrontLength + most * k
-  few : entries + maxPairs ≤ maxPairs * k
-  rest : totalsFrom front 0 zero64 (writeCells policy d 0 (cellSheets sheet)) ≡ left policy d sheet n k size entries greatest
+record Inv (policy : GdsRoundingPolicy) (d : Float) (sheet : List ℕ) (front cells cell size entries : ℕ) (greatest : Float) : Type 0 where
+  within : cell ≤ cells
+  small : size ≤ maxFrontLength + most * cell
+  few : entries ≤ maxPairs * cell
+  rest : totalsFrom front 0 zero64 (writeCells policy d 0 (cellSheets sheet)) ≡ left policy d sheet cells cell size entries greatest
 
 abbrev Inv-loop : tie.InvT-loop
-Inv-loop converter sheet front n k₀ length₀ entries₀ greatest₀ k length entries greatest = Inv (converter .policy) (converter .d) sheet front n k length entries greatest
+Inv-loop converter sheet front cells cell₀ length₀ entries₀ greatest₀ cell length entries greatest = Inv (converter .policy) (converter .d) sheet front cells cell length entries greatest
 
 abbrev μ-loop : tie.MeasureT-loop
-μ-loop converter sheet front n k₀ length₀ entries₀ greatest₀ k length entries greatest = n - k
+μ-loop converter sheet front cells cell₀ length₀ entries₀ greatest₀ cell length entries greatest = cells - cell
 
 u32-at-requires : tie.Need-u32-at-requires Inv-loop μ-loop
 u32-at-requires c κs = pairs-count (c .before .args .sheet .now) (c .before .pre .1 .0) .word
 
-cast-n : tie.Need-cast-n Inv-loop μ-loop
-cast-n c = search needs
+cast-cells : tie.Need-cast-cells Inv-loop μ-loop
+cast-cells c = search needs
+
+sub-cells : tie.Need-sub-cells Inv-loop μ-loop
+sub-cells c =
+    let l = pairs-count (c .before .before .args .sheet .now) (c .before .before .pre .1 .0) .least in
+    let e = c .u32-at .ensures in
+    omega arith
 
 loop-holds : tie.Need-loop-holds Inv-loop μ-loop
 loop-holds c =
     let a = c .before .before .args in
-    let p = pairs-count (a .sheet .now) (c .before .before .pre .1 .0) in
     let e = c .u32-at .ensures in
-    let l = p .least in
     let f = c .before .before .pre .1 .1 in
+    let m = c .u32-at .result - 1 in
     record {
-      from = omega arith;
-      to = omega arith;
+      within = omega arith;
       small = omega arith;
       few = omega arith;
-      rest = left-start (a .converter .policy) (a .converter .d) (a .sheet .now) (c .u32-at .result) (a .front) e
-          ∙ ap (left (a .converter .policy) (a .converter .d) (a .sheet .now) (c .u32-at .result) 1 (a .front) 0) (sym zero-is);
+      rest = left-start (a .converter .policy) (a .converter .d) (a .sheet .now) m (a .front) (ap (λ (n : ℕ). n - 1) e)
+          ∙ ap (left (a .converter .policy) (a .converter .d) (a .sheet .now) m 0 (a .front) 0) (sym zero-is);
     }
+
+add-next : tie.Need-add-next Inv-loop μ-loop
+add-next c =
+    let s = c .before .before .before .before in
+    let p = pairs-count (s .args .sheet .now) (s .pre .1 .0) .most in
+    let e = c .before .before .u32-at .ensures in
+    let h = c .loop-test .taken in
+    omega arith
 
 block-requires : tie.Need-block-requires Inv-loop μ-loop
 block-requires c κs =
     let s = c .before .before .before .before in
     let u = c .before .before .u32-at in
-    block-in (s .args .sheet .now) (u .result) (c .before .loop .k) (s .pre .1 .0) (u .ensures) (c .loop-test .taken)
+    let h = c .loop-test .taken in
+    block-in (s .args .sheet .now) (u .result) (c .before .loop .cell + 1) (s .pre .1 .0) (u .ensures) (omega arith)
 
 measure-sheet-requires : tie.Need-measure-sheet-requires Inv-loop μ-loop
 measure-sheet-requires c κs =
     let s = c .before .before .before .before .before in
-    let l = block-within (s .args .sheet .now) (c .before .before .loop .k) in
+    let l = block-within (s .args .sheet .now) (c .before .before .loop .cell + 1) in
     let e = ap length (c .block .ensures) in
     let p = s .pre .0 in
     omega arith
 
 enum-known-refusal : tie.Need-enum-known-refusal Inv-loop μ-loop
 enum-known-refusal c = search needs
-
-sub-t18 : tie.Need-sub-t18 Inv-loop μ-loop
-sub-t18 c = let v = c .before .before .before .before .before .before .loop .inv .from in omega arith
 
 returns : tie.Need-returns Inv-loop μ-loop
 returns c =
@@ -88,7 +97,7 @@ returns c =
     let u = t .before .before in
     let a = u .before .before .args in
     let g = c .before .refusal .given in
-    (sym (l .inv .rest ∙ left-stop (a .converter .policy) (a .converter .d) (a .sheet .now) (u .u32-at .result) (l .k) (l .length) (l .entries) (l .greatest) (l .inv .from) (t .loop-test .taken) (b .block .ensures) (m .measure-sheet .ensures .0) (g .0 .0) (g .0 .1 .0) (g .1)), tt)
+    (sym (l .inv .rest ∙ left-stop (a .converter .policy) (a .converter .d) (a .sheet .now) (u .u32-at .result - 1) (l .cell) (l .length) (l .entries) (l .greatest) (t .loop-test .taken) (b .block .ensures) (m .measure-sheet .ensures .0) (g .0 .0) (g .0 .1 .0) (g .1)), tt)
 
 enum-known-m : tie.Need-enum-known-m Inv-loop μ-loop
 enum-known-m c = search needs
@@ -124,17 +133,6 @@ add-entries c =
 larger-requires : tie.Need-larger-requires Inv-loop μ-loop
 larger-requires c κs = search needs
 
-add-k : tie.Need-add-k Inv-loop μ-loop
-add-k c =
-    let m = c .before .before .before .before in
-    let t = m .before .before in
-    let u = t .before .before in
-    let s = u .before .before in
-    let p = pairs-count (s .args .sheet .now) (s .pre .1 .0) .most in
-    let e = u .u32-at .ensures in
-    let h = t .loop-test .taken in
-    record { fits = omega arith }
-
 loop-less : tie.Need-loop-less Inv-loop μ-loop
 loop-less c =
     let h = c .before .before .before .before .before .before .loop-test .taken in
@@ -153,19 +151,17 @@ loop-again c =
     let h = t .loop-test .taken in
     let g = k .m .given in
     let q = answer-small (m .measure-sheet .ensures .1) (g .1) in
-    let from = v .from in
     let small = v .small in
     let few = v .few in
-    let q0 = q .0 in
-    let q1 = q .1 in
+    let longest = q .0 in
+    let most-told = q .1 in
     record {
-      from = omega arith;
-      to = omega arith;
+      within = omega arith;
       small = omega arith;
       few = omega arith;
       rest = v .rest
-          ∙ left-turn (a .converter .policy) (a .converter .d) (a .sheet .now) (u .u32-at .result) (l .k) (l .length) (l .entries) (l .greatest) (v .from) h (b .block .ensures) (m .measure-sheet .ensures .0) (g .0 .0) (g .0 .1 .0) (g .0 .1 .1 .0) (g .1)
-          ∙ ap (left (a .converter .policy) (a .converter .d) (a .sheet .now) (u .u32-at .result) (l .k + 1) (l .length + g .0 .0) (l .entries + g .0 .1 .0)) (sym (c .larger .ensures));
+          ∙ left-turn (a .converter .policy) (a .converter .d) (a .sheet .now) (u .u32-at .result - 1) (l .cell) (l .length) (l .entries) (l .greatest) h (b .block .ensures) (m .measure-sheet .ensures .0) (g .0 .0) (g .0 .1 .0) (g .0 .1 .1 .0) (g .1)
+          ∙ ap (left (a .converter .policy) (a .converter .d) (a .sheet .now) (u .u32-at .result - 1) (l .cell + 1) (l .length + g .0 .0) (l .entries + g .0 .1 .0)) (sym (c .larger .ensures));
     }
 
 returns-2 : tie.Need-returns-2 Inv-loop μ-loop
@@ -178,8 +174,8 @@ returns-2 c =
     let p = pairs-count (a .sheet .now) (s .pre .1 .0) .most in
     let e = u .u32-at .ensures in
     let few = v .few in
-    let to = v .to in
-    (sym (v .rest ∙ left-end (a .converter .policy) (a .converter .d) (a .sheet .now) (u .u32-at .result) (l .k) (l .length) (l .entries) (l .greatest) (c .loop-test .left)), omega arith)
+    let w = v .within in
+    (sym (v .rest ∙ left-end (a .converter .policy) (a .converter .d) (a .sheet .now) (u .u32-at .result - 1) (l .cell) (l .length) (l .entries) (l .greatest) (c .loop-test .left)), omega arith)
 
 pub measure-cells-spec : {M : Type 1} → statement M
 measure-cells-spec =
@@ -188,18 +184,18 @@ measure-cells-spec =
     Inv-loop
     μ-loop
     u32-at-requires
-    cast-n
+    cast-cells
+    sub-cells
     loop-holds
+    add-next
     block-requires
     measure-sheet-requires
     enum-known-refusal
-    sub-t18
     returns
     enum-known-m
     add-length
     add-entries
     larger-requires
-    add-k
     loop-less
     loop-again
     returns-2)

@@ -1,41 +1,54 @@
 -- Every cell in turn: what is left stands at the places reached (PutLaws). Assumes nothing.
-use Prim.Native.Nat.{_-_}
+use mathlib.Core.Path.{ap}
+use Prim.Native.Nat.{ℕ, _+_, _-_}
 use native.Mathlib.Omega.{arith}
 use borrow.Author.Needs.{needs}
 use Rattle.sheet.proofs.CountLaws.{pairs-count, block-in}
-use Rattle.write_library.proofs.PutLaws.{Turns, turns-start, turns-end, out-same, report-same, number-small, turn-place, turn-report, turn-fits, turn-end, turn-noted, turn-next}
+use Rattle.write_library.proofs.PutLaws.{Turns, turns-start, turns-end, out-same, report-same, turn-place, turn-report, turn-fits, turn-end, turn-noted, turn-next}
 use Rattle.write_library.proofs.put_cells.Statement.{statement}
 use Rattle.write_library.proofs.put_cells.Tie as tie
 
 abbrev Inv-loop : tie.InvT-loop
-Inv-loop converter sheet out₀ report₀ n next₀ to₀ at₀ out report next to at = Turns (converter .policy) (converter .d) sheet out₀ report₀ n out report next to at
+Inv-loop converter sheet out₀ report₀ cells cell₀ to₀ at₀ out report cell to at = Turns (converter .policy) (converter .d) sheet out₀ report₀ cells out report cell to at
 
 abbrev μ-loop : tie.MeasureT-loop
-μ-loop converter sheet out₀ report₀ n next₀ to₀ at₀ out report next to at = n - next
+μ-loop converter sheet out₀ report₀ cells cell₀ to₀ at₀ out report cell to at = cells - cell
 
 u32-at-requires : tie.Need-u32-at-requires Inv-loop μ-loop
 u32-at-requires c κs = let s = c .before .before .before in pairs-count (s .args .sheet .now) (s .pre .0) .word
 
-cast-n : tie.Need-cast-n Inv-loop μ-loop
-cast-n c = search needs
+cast-cells : tie.Need-cast-cells Inv-loop μ-loop
+cast-cells c = search needs
+
+sub-cells : tie.Need-sub-cells Inv-loop μ-loop
+sub-cells c =
+    let s = c .before .before .before .before in
+    let l = pairs-count (s .args .sheet .now) (s .pre .0) .least in
+    let e = c .u32-at .ensures in
+    omega arith
 
 loop-holds : tie.Need-loop-holds Inv-loop μ-loop
 loop-holds c =
     let s = c .before .before .before .before in
-    turns-start (s .pre .0) (c .u32-at .ensures) (s .pre .1)
+    turns-start (s .pre .0) (ap (λ (n : ℕ). n - 1) (c .u32-at .ensures)) (s .pre .1)
+
+add-next : tie.Need-add-next Inv-loop μ-loop
+add-next c =
+    let h = c .loop-test .taken in
+    let i = c .before .loop .inv .most in
+    record { fits = omega arith }
 
 block-requires : tie.Need-block-requires Inv-loop μ-loop
 block-requires c κs =
-    let l = c .before .loop in
     let s = c .before .before .before .before .before .before in
-    block-in (s .args .sheet .now) (c .before .before .u32-at .result) (l .next) (s .pre .0) (l .inv .count) (c .loop-test .taken)
+    let u = c .before .before .u32-at in
+    let h = c .loop-test .taken in
+    block-in (s .args .sheet .now) (u .result) (c .before .loop .cell + 1) (s .pre .0) (u .ensures) (omega arith)
 
-sub-cell : tie.Need-sub-cell Inv-loop μ-loop
-sub-cell c = search needs
-
-cast-cell : tie.Need-cast-cell Inv-loop μ-loop
-cast-cell c =
-    let i = number-small (c .before .before .loop .inv) in
+cast-put-cell : tie.Need-cast-put-cell Inv-loop μ-loop
+cast-put-cell c =
+    let h = c .before .loop-test .taken in
+    let i = c .before .before .loop .inv .most in
     record { fits = omega arith }
 
 sub-put-cell : tie.Need-sub-put-cell Inv-loop μ-loop
@@ -83,16 +96,6 @@ add-at c =
     let q = s .good .1 .1 .1 .0 in
     omega arith
 
-add-next : tie.Need-add-next Inv-loop μ-loop
-add-next c =
-    let p = c .before .before .before .before .before .before in
-    let b = p .before .before .before in
-    let t = b .before in
-    let v = t .before .loop .inv in
-    let h = t .loop-test .taken in
-    let m = v .most in
-    record { fits = omega arith }
-
 loop-less : tie.Need-loop-less Inv-loop μ-loop
 loop-less c =
     let p = c .before .before .before .before .before .before in
@@ -125,11 +128,12 @@ put-cells-spec =
     Inv-loop
     μ-loop
     u32-at-requires
-    cast-n
+    cast-cells
+    sub-cells
     loop-holds
+    add-next
     block-requires
-    sub-cell
-    cast-cell
+    cast-put-cell
     sub-put-cell
     part-put-cell-start
     part-put-cell-end
@@ -139,7 +143,6 @@ put-cells-spec =
     put-cell-requires
     add-to
     add-at
-    add-next
     loop-less
     loop-again
     same-length
