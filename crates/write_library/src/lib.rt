@@ -7,12 +7,12 @@ use refusal::Refusal;
 use validation::Called;
 use walk::Ends;
 ghost use mathlib.Core.Path.{_≡_};
-ghost use Prim.Native.Nat.{_≤_};
+ghost use Prim.Native.Nat.{_-_, _≤_};
 ghost use lib.Dec.{T};
 ghost use lib.ListN.{length};
 ghost use Rattle.big_endian.specs.Big.{bytesOf};
 ghost use Rattle.binary64.specs.Value.{zero64};
-ghost use Rattle.sheet.specs.Blocks.{pairsFit};
+ghost use Rattle.sheet.specs.Blocks.{pairCount, pairsFit};
 ghost use Rattle.sheet.specs.Library.{cellSheets};
 ghost use Rattle.cell.specs.Limits.{maxSheetLength};
 ghost use Rattle.walk.specs.code.Walk.{StructureFits, PutsStructure};
@@ -29,6 +29,14 @@ const ENDLIB_LENGTH: usize = 4;
 
 // An entry after the 4 bytes of its cell's number.
 const ENTRY_LENGTH: usize = 37;
+
+// How many cells there are: every block but block 0.
+fn cell_count(sheet: &[u8]) -> usize
+    requires { ⌜ T (pairsFit (now sheet)) ⌝ }
+    ensures { λ r. ⌜ r ≡ pairCount (now (sheet .entry)) - 1 ⌝ }
+{
+    big_endian::u32_at(sheet, 0) as usize - 1
+}
 
 // ---- measuring
 
@@ -50,7 +58,7 @@ fn measure_cells(converter: CoordinateConverter, sheet: &[u8], front: usize) -> 
     ensures { λ r. ⌜ r ≡ totalsFrom front 0 zero64 (writeCells (converter .policy) (converter .d) 0 (cellSheets (now (sheet .entry)))) ⌝ }
     ensures { λ r. ⌜ FewEntries r ⌝ }
 {
-    let cells = big_endian::u32_at(sheet, 0) as usize - 1;
+    let cells = cell_count(sheet);
     let mut cell: usize = 0;
     let mut length: usize = front;
     let mut entries: usize = 0;
@@ -158,7 +166,7 @@ fn put_cells(
     requires { ⌜ CellsFit (converter .policy) (converter .d) (now sheet) (length (now out)) (length (now report)) ⌝ }
     ensures { λ r. ⌜ PutsCells (converter .policy) (converter .d) (now (sheet .entry)) (now (out .entry)) (now (report .entry)) (now (out .exit)) (now (report .exit)) r ⌝ }
 {
-    let cells = big_endian::u32_at(sheet, 0) as usize - 1;
+    let cells = cell_count(sheet);
     let mut cell: usize = 0;
     let mut to: usize = 0;
     let mut at: usize = 0;

@@ -1,5 +1,5 @@
 -- `write_library::measure_cells` meets its contract. What is left to measure, on top of what was gathered, stays what the whole was; the measure is how many cells are left. Assumes nothing.
-use mathlib.Core.Path.{_≡_, sym, ap, _∙_}
+use mathlib.Core.Path.{_≡_, refl, sym, ap, _∙_}
 use mathlib.Core.List.{List}
 use Prim.Native.Nat.{ℕ, _+_, _*_, _-_, _≤_}
 use native.Mathlib.Omega.{arith}
@@ -9,7 +9,7 @@ use lib.Ieee.{Float}
 use Rattle.binary64.specs.Value.{zero64}
 use Rattle.conversion.specs.declared.GdsRoundingPolicy.{GdsRoundingPolicy}
 use Rattle.conversion.proofs.DeviationLaws.{zero-is}
-use Rattle.sheet.specs.Blocks.{maxPairs}
+use Rattle.sheet.specs.Blocks.{maxPairs, pairCount}
 use Rattle.sheet.specs.Library.{cellSheets}
 use Rattle.sheet.proofs.CountLaws.{pairs-count, block-in}
 use Rattle.cell.specs.Limits.{maxSheetLength}
@@ -36,29 +36,20 @@ Inv-loop converter sheet front cells cell₀ length₀ entries₀ greatest₀ ce
 abbrev μ-loop : tie.MeasureT-loop
 μ-loop converter sheet front cells cell₀ length₀ entries₀ greatest₀ cell length entries greatest = cells - cell
 
-u32-at-requires : tie.Need-u32-at-requires Inv-loop μ-loop
-u32-at-requires c κs = pairs-count (c .before .args .sheet .now) (c .before .pre .1 .0) .word
-
-cast-cells : tie.Need-cast-cells Inv-loop μ-loop
-cast-cells c = search needs
-
-sub-cells : tie.Need-sub-cells Inv-loop μ-loop
-sub-cells c =
-    let l = pairs-count (c .before .before .args .sheet .now) (c .before .before .pre .1 .0) .least in
-    let e = c .u32-at .ensures in
-    omega arith
+cell-count-requires : tie.Need-cell-count-requires Inv-loop μ-loop
+cell-count-requires c κs = c .before .pre .1 .0
 
 loop-holds : tie.Need-loop-holds Inv-loop μ-loop
 loop-holds c =
     let a = c .before .before .args in
-    let e = c .u32-at .ensures in
+    let e = c .cell-count .ensures in
     let f = c .before .before .pre .1 .1 in
-    let m = c .u32-at .result - 1 in
+    let m = c .cell-count .result in
     record {
       within = omega arith;
       small = omega arith;
       few = omega arith;
-      rest = left-start (a .converter .policy) (a .converter .d) (a .sheet .now) m (a .front) (ap (λ (n : ℕ). n - 1) e)
+      rest = left-start (a .converter .policy) (a .converter .d) (a .sheet .now) m (a .front) e
           ∙ ap (left (a .converter .policy) (a .converter .d) (a .sheet .now) m 0 (a .front) 0) (sym zero-is);
     }
 
@@ -66,16 +57,17 @@ add-next : tie.Need-add-next Inv-loop μ-loop
 add-next c =
     let s = c .before .before .before .before in
     let p = pairs-count (s .args .sheet .now) (s .pre .1 .0) .most in
-    let e = c .before .before .u32-at .ensures in
+    let e = c .before .before .cell-count .ensures in
     let h = c .loop-test .taken in
     omega arith
 
 block-requires : tie.Need-block-requires Inv-loop μ-loop
 block-requires c κs =
     let s = c .before .before .before .before in
-    let u = c .before .before .u32-at in
+    let u = c .before .before .cell-count in
     let h = c .loop-test .taken in
-    block-in (s .args .sheet .now) (u .result) (c .before .loop .cell + 1) (s .pre .1 .0) (u .ensures) (omega arith)
+    let e = u .ensures in
+    block-in (s .args .sheet .now) (pairCount (s .args .sheet .now)) (c .before .loop .cell + 1) (s .pre .1 .0) refl (omega arith)
 
 measure-sheet-requires : tie.Need-measure-sheet-requires Inv-loop μ-loop
 measure-sheet-requires c κs =
@@ -97,7 +89,7 @@ returns c =
     let u = t .before .before in
     let a = u .before .before .args in
     let g = c .before .refusal .given in
-    (sym (l .inv .rest ∙ left-stop (a .converter .policy) (a .converter .d) (a .sheet .now) (u .u32-at .result - 1) (l .cell) (l .length) (l .entries) (l .greatest) (t .loop-test .taken) (b .block .ensures) (m .measure-sheet .ensures .0) (g .0 .0) (g .0 .1 .0) (g .1)), tt)
+    (sym (l .inv .rest ∙ left-stop (a .converter .policy) (a .converter .d) (a .sheet .now) (u .cell-count .result) (l .cell) (l .length) (l .entries) (l .greatest) (t .loop-test .taken) (b .block .ensures) (m .measure-sheet .ensures .0) (g .0 .0) (g .0 .1 .0) (g .1)), tt)
 
 enum-known-m : tie.Need-enum-known-m Inv-loop μ-loop
 enum-known-m c = search needs
@@ -110,7 +102,7 @@ add-length c =
     let u = t .before .before in
     let s = u .before .before in
     let p = pairs-count (s .args .sheet .now) (s .pre .1 .0) .most in
-    let e = u .u32-at .ensures in
+    let e = u .cell-count .ensures in
     let h = t .loop-test .taken in
     let o = v .small in
     let q = answer-small (m .measure-sheet .ensures .1) (c .before .m .given .1) .0 in
@@ -124,7 +116,7 @@ add-entries c =
     let u = t .before .before in
     let s = u .before .before in
     let p = pairs-count (s .args .sheet .now) (s .pre .1 .0) .most in
-    let e = u .u32-at .ensures in
+    let e = u .cell-count .ensures in
     let h = t .loop-test .taken in
     let o = v .few in
     let q = answer-small (m .measure-sheet .ensures .1) (c .before .m .given .1) .1 in
@@ -160,8 +152,8 @@ loop-again c =
       small = omega arith;
       few = omega arith;
       rest = v .rest
-          ∙ left-turn (a .converter .policy) (a .converter .d) (a .sheet .now) (u .u32-at .result - 1) (l .cell) (l .length) (l .entries) (l .greatest) h (b .block .ensures) (m .measure-sheet .ensures .0) (g .0 .0) (g .0 .1 .0) (g .0 .1 .1 .0) (g .1)
-          ∙ ap (left (a .converter .policy) (a .converter .d) (a .sheet .now) (u .u32-at .result - 1) (l .cell + 1) (l .length + g .0 .0) (l .entries + g .0 .1 .0)) (sym (c .larger .ensures));
+          ∙ left-turn (a .converter .policy) (a .converter .d) (a .sheet .now) (u .cell-count .result) (l .cell) (l .length) (l .entries) (l .greatest) h (b .block .ensures) (m .measure-sheet .ensures .0) (g .0 .0) (g .0 .1 .0) (g .0 .1 .1 .0) (g .1)
+          ∙ ap (left (a .converter .policy) (a .converter .d) (a .sheet .now) (u .cell-count .result) (l .cell + 1) (l .length + g .0 .0) (l .entries + g .0 .1 .0)) (sym (c .larger .ensures));
     }
 
 returns-2 : tie.Need-returns-2 Inv-loop μ-loop
@@ -172,10 +164,10 @@ returns-2 c =
     let s = u .before .before in
     let a = s .args in
     let p = pairs-count (a .sheet .now) (s .pre .1 .0) .most in
-    let e = u .u32-at .ensures in
+    let e = u .cell-count .ensures in
     let few = v .few in
     let w = v .within in
-    (sym (v .rest ∙ left-end (a .converter .policy) (a .converter .d) (a .sheet .now) (u .u32-at .result - 1) (l .cell) (l .length) (l .entries) (l .greatest) (c .loop-test .left)), omega arith)
+    (sym (v .rest ∙ left-end (a .converter .policy) (a .converter .d) (a .sheet .now) (u .cell-count .result) (l .cell) (l .length) (l .entries) (l .greatest) (c .loop-test .left)), omega arith)
 
 pub measure-cells-spec : {M : Type 1} → statement M
 measure-cells-spec =
@@ -183,9 +175,7 @@ measure-cells-spec =
     (tie.spec
     Inv-loop
     μ-loop
-    u32-at-requires
-    cast-cells
-    sub-cells
+    cell-count-requires
     loop-holds
     add-next
     block-requires

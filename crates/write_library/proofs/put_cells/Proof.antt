@@ -1,9 +1,10 @@
 -- Every cell in turn: what is left stands at the places reached (PutLaws). Assumes nothing.
-use mathlib.Core.Path.{ap}
-use Prim.Native.Nat.{ℕ, _+_, _-_}
+use mathlib.Core.Path.{refl}
+use Prim.Native.Nat.{_+_, _-_}
 use native.Mathlib.Omega.{arith}
 use borrow.Author.Needs.{needs}
-use Rattle.sheet.proofs.CountLaws.{pairs-count, block-in}
+use Rattle.sheet.specs.Blocks.{pairCount}
+use Rattle.sheet.proofs.CountLaws.{block-in}
 use Rattle.write_library.proofs.PutLaws.{Turns, turns-start, turns-end, out-same, report-same, turn-place, turn-report, turn-fits, turn-end, turn-noted, turn-next}
 use Rattle.write_library.proofs.put_cells.Statement.{statement}
 use Rattle.write_library.proofs.put_cells.Tie as tie
@@ -14,23 +15,13 @@ Inv-loop converter sheet out₀ report₀ cells cell₀ to₀ at₀ out report c
 abbrev μ-loop : tie.MeasureT-loop
 μ-loop converter sheet out₀ report₀ cells cell₀ to₀ at₀ out report cell to at = cells - cell
 
-u32-at-requires : tie.Need-u32-at-requires Inv-loop μ-loop
-u32-at-requires c κs = let s = c .before .before .before in pairs-count (s .args .sheet .now) (s .pre .0) .word
-
-cast-cells : tie.Need-cast-cells Inv-loop μ-loop
-cast-cells c = search needs
-
-sub-cells : tie.Need-sub-cells Inv-loop μ-loop
-sub-cells c =
-    let s = c .before .before .before .before in
-    let l = pairs-count (s .args .sheet .now) (s .pre .0) .least in
-    let e = c .u32-at .ensures in
-    omega arith
+cell-count-requires : tie.Need-cell-count-requires Inv-loop μ-loop
+cell-count-requires c κs = c .before .before .before .pre .0
 
 loop-holds : tie.Need-loop-holds Inv-loop μ-loop
 loop-holds c =
     let s = c .before .before .before .before in
-    turns-start (s .pre .0) (ap (λ (n : ℕ). n - 1) (c .u32-at .ensures)) (s .pre .1)
+    turns-start (s .pre .0) (c .cell-count .ensures) (s .pre .1)
 
 add-next : tie.Need-add-next Inv-loop μ-loop
 add-next c =
@@ -41,9 +32,9 @@ add-next c =
 block-requires : tie.Need-block-requires Inv-loop μ-loop
 block-requires c κs =
     let s = c .before .before .before .before .before .before in
-    let u = c .before .before .u32-at in
+    let e = c .before .before .cell-count .ensures in
     let h = c .loop-test .taken in
-    block-in (s .args .sheet .now) (u .result) (c .before .loop .cell + 1) (s .pre .0) (u .ensures) (omega arith)
+    block-in (s .args .sheet .now) (pairCount (s .args .sheet .now)) (c .before .loop .cell + 1) (s .pre .0) refl (omega arith)
 
 cast-put-cell : tie.Need-cast-put-cell Inv-loop μ-loop
 cast-put-cell c =
@@ -127,9 +118,7 @@ put-cells-spec =
     (tie.spec
     Inv-loop
     μ-loop
-    u32-at-requires
-    cast-cells
-    sub-cells
+    cell-count-requires
     loop-holds
     add-next
     block-requires
