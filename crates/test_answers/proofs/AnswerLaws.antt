@@ -58,6 +58,10 @@ pub front-length : (n k : ℕ) (g : Float) → 17 ≡ length (frontBytes n k g)
 unfolding frontBytes
 front-length n k g = refl
 
+-- by the length of the bytes that follow
+pub by-length : {m n : ℕ} (k : ℕ) (g : Float) (b e : List ℕ) → m ≡ n → frontBytes m k g ++ b ++ e ≡ frontBytes n k g ++ b ++ e
+by-length k g b e h = ap (λ (z : ℕ). frontBytes z k g ++ b ++ e) h
+
 -- the run that was put at the start of a buffer
 first : (bs d : List ℕ) (n : ℕ) → n ≡ length bs → take n (over bs d) ≡ bs
 unfolding over

@@ -2,7 +2,8 @@
 use cell::Answer;
 use conversion::ENTRY_LENGTH;
 use library::LibraryAnswer;
-ghost use Prim.Native.Nat.{_≤_};
+ghost use mathlib.Core.List.{_++_};
+ghost use Prim.Native.Nat.{_+_, _≤_};
 ghost use lib.ListN.{length};
 ghost use Rattle.big_endian.specs.Buffer.{WroteAt};
 ghost use Rattle.records.specs.code.Bytes.{Placed};
@@ -45,6 +46,18 @@ fn put_front(text: &mut [u8], size: usize, entries: usize, greatest: f64) -> usi
     big_endian::put_u64_at(text, c, binary64::to_bits(greatest))
 }
 
+// What is accepted: the bytes of the structure or the file, and those of the entries.
+fn put_accepted(text: &mut [u8], entries: usize, greatest: f64, bytes: &[u8], told: &[u8]) -> usize
+    requires { ⌜ length (now bytes) ≤ 65536 ⌝ }
+    requires { ⌜ entries ≤ 8192 ⌝ }
+    requires { ⌜ 17 + length (now bytes) + length (now told) ≤ length (now text) ⌝ }
+    ensures { λ r. ⌜ WroteAt (frontBytes (length (now (bytes .entry))) entries greatest ++ now (bytes .entry) ++ now (told .entry)) (now (text .entry)) (now (text .exit)) 0 r ⌝ }
+{
+    let a = put_front(text, bytes.len(), entries, greatest);
+    let b = records::put_bytes_at(text, a, bytes);
+    records::put_bytes_at(text, b, told)
+}
+
 // The answer of writing a cell.
 fn put_cell_answer(text: &mut [u8], policy: u8, d: f64, sheet: &[u8]) -> usize
     requires { ⌜ 24593 ≤ length (now text) ⌝ }
@@ -59,9 +72,8 @@ fn put_cell_answer(text: &mut [u8], policy: u8, d: f64, sheet: &[u8]) -> usize
             entries,
             greatest,
         } => {
-            let a = put_front(text, length, entries, greatest);
-            let b = records::put_bytes_at(text, a, &out[..length]);
-            records::put_bytes_at(text, b, &report[..ENTRY_LENGTH * entries])
+            let told = &report[..ENTRY_LENGTH * entries];
+            put_accepted(text, entries, greatest, &out[..length], told)
         }
     }
 }
@@ -95,9 +107,8 @@ fn put_library_answer(text: &mut [u8], policy: u8, d: f64, sheet: &[u8]) -> usiz
             entries,
             greatest,
         } => {
-            let a = put_front(text, length, entries, greatest);
-            let b = records::put_bytes_at(text, a, &out[..length]);
-            records::put_bytes_at(text, b, &report[..LIBRARY_ENTRY_LENGTH * entries])
+            let told = &report[..LIBRARY_ENTRY_LENGTH * entries];
+            put_accepted(text, entries, greatest, &out[..length], told)
         }
     }
 }

@@ -2,12 +2,12 @@
 use mathlib.Core.Path.{sym, ap, _∙_}
 use Prim.Native.Nat.{ℕ, _*_}
 use native.Mathlib.Omega.{arith}
-use lib.ListN.{length-take}
+use lib.ListN.{take, length-take}
 use lib.Seq.{length-take-le}
-use Rattle.big_endian.proofs.BufferLaws.{then-at, same-bytes}
-use Rattle.test_answers.specs.Answer.{libraryRefusedBytes}
+use Rattle.big_endian.proofs.BufferLaws.{same-bytes}
 use Rattle.write_library.proofs.RoomLaws.{writes-room}
-use Rattle.test_answers.proofs.AnswerLaws.{library-refused-bytes, library-accepted-bytes, zeros-length}
+use Rattle.test_answers.specs.Answer.{libraryRefusedBytes}
+use Rattle.test_answers.proofs.AnswerLaws.{library-refused-bytes, library-accepted-bytes, by-length, zeros-length}
 use borrow.Author.Needs.{needs}
 use Rattle.test_answers.proofs.put_library_answer.Statement.{statement}
 use Rattle.test_answers.proofs.put_library_answer.Tie as tie
@@ -33,71 +33,47 @@ put-library-refused-requires c κs = search needs
 enum-known-length : tie.Need-enum-known-length
 enum-known-length c = search needs
 
-put-front-requires : tie.Need-put-front-requires
-put-front-requires c κs =
-    let h = writes-room (c .before .before .before .before .before .before .write-library .ensures) (c .before .before .length .given .1) in
-    (omega arith, (omega arith, omega arith))
-
-array-share-prefix-out : tie.Need-array-share-prefix-out
-array-share-prefix-out c =
-    let at-length = c .before .before .before .before .before .before in
-    let at-write-library = at-length .before .before .before .before in
-    let h = writes-room (at-write-library .write-library .ensures) (at-length .length .given .1) in
-    omega arith
-
-slice-aggregate-put-bytes-at : tie.Need-slice-aggregate-put-bytes-at
-slice-aggregate-put-bytes-at c =
-    let at-length = c .before .before .before .before .before .before .before in
-    let at-write-library = at-length .before .before .before .before in
-    let h = writes-room (at-write-library .write-library .ensures) (at-length .length .given .1) in
-    sym (length-take-le (at-length .length .given .0 .0) (at-write-library .write-library .last .1 .1 .1 .0) (omega arith))
-
-put-bytes-at-requires : tie.Need-put-bytes-at-requires
-put-bytes-at-requires c κs =
-    let at-put-front = c .before .before .before .before in
-    let at-length = at-put-front .before .before .before in
-    let at-write-library = at-length .before .before .before .before in
-    let h = writes-room (at-write-library .write-library .ensures) (at-length .length .given .1) in
-    let w = at-put-front .put-front .ensures in
-    let e = w .end in
-    let l = w .long in
-    simp length-take (omega arith)
-
+-- what was accepted has room
 mul-report : tie.Need-mul-report
 mul-report c =
-    let at-length = c .before .before .before .before .before .before .before .before .before .before .before in
-    let h = writes-room (at-length .before .before .before .before .write-library .ensures) (at-length .length .given .1) in
+    let l = c .before in
+    let h = writes-room (l .before .before .before .before .write-library .ensures) (l .length .given .1) in
     omega arith
 
 array-share-prefix-report : tie.Need-array-share-prefix-report
 array-share-prefix-report c =
-    let at-length = c .before .before .before .before .before .before .before .before .before .before .before in
-    let at-write-library = at-length .before .before .before .before in
-    let h = writes-room (at-write-library .write-library .ensures) (at-length .length .given .1) in
+    let l = c .before in
+    let h = writes-room (l .before .before .before .before .write-library .ensures) (l .length .given .1) in
     omega arith
 
-slice-aggregate-put-bytes-at-2 : tie.Need-slice-aggregate-put-bytes-at-2
-slice-aggregate-put-bytes-at-2 c =
-    let at-length = c .before .before .before .before .before .before .before .before .before .before .before .before in
-    let at-write-library = at-length .before .before .before .before in
-    let h = writes-room (at-write-library .write-library .ensures) (at-length .length .given .1) in
-    sym (length-take-le (37 * at-length .length .given .0 .1 .0) (at-write-library .write-library .last .1 .1 .1 .1 .0) (omega arith))
+slice-aggregate-told : tie.Need-slice-aggregate-told
+slice-aggregate-told c =
+    let l = c .before .before in
+    let w = l .before .before .before .before .write-library in
+    let h = writes-room (w .ensures) (l .length .given .1) in
+    sym (length-take-le (37 * l .length .given .0 .1 .0) (w .last .1 .1 .1 .1 .0) (omega arith))
 
-put-bytes-at-requires-2 : tie.Need-put-bytes-at-requires-2
-put-bytes-at-requires-2 c κs =
-    let at-put-bytes-at = c .before .before .before .before in
-    let at-put-front = at-put-bytes-at .before .before .before .before .before in
-    let at-length = at-put-front .before .before .before in
-    let at-write-library = at-length .before .before .before .before in
-    let h = writes-room (at-write-library .write-library .ensures) (at-length .length .given .1) in
-    let w = at-put-front .put-front .ensures in
-    let e = w .end in
-    let l = w .long in
-    let v = at-put-bytes-at .put-bytes-at .ensures in
-    let g = v .end in
-    let k = v .long in
-    let m = length-take (at-length .length .given .0 .0) (at-write-library .write-library .last .1 .1 .1 .0) in
-    simp length-take (omega arith)
+array-share-prefix-out : tie.Need-array-share-prefix-out
+array-share-prefix-out c =
+    let l = c .before .before .before in
+    let h = writes-room (l .before .before .before .before .write-library .ensures) (l .length .given .1) in
+    omega arith
+
+slice-aggregate-put-accepted : tie.Need-slice-aggregate-put-accepted
+slice-aggregate-put-accepted c =
+    let l = c .before .before .before .before in
+    let w = l .before .before .before .before .write-library in
+    let h = writes-room (w .ensures) (l .length .given .1) in
+    sym (length-take-le (l .length .given .0 .0) (w .last .1 .1 .1 .0) (omega arith))
+
+put-accepted-requires : tie.Need-put-accepted-requires
+put-accepted-requires c κs =
+    let l = c .before .before .before .before in
+    let w = l .before .before .before .before .write-library in
+    let h = writes-room (w .ensures) (l .length .given .1) in
+    let a = length-take (l .length .given .0 .0) (w .last .1 .1 .1 .0) in
+    let b = length-take (37 * l .length .given .0 .1 .0) (w .last .1 .1 .1 .1 .0) in
+    (omega arith, (omega arith, omega arith))
 
 same-length : tie.Need-same-length
 same-length c = search needs
@@ -106,8 +82,8 @@ returns : tie.Need-returns
 returns c =
     let at-number = c .before .before .before in
     let at-refusal = at-number .before .before .before in
-    let at-write-library = at-refusal .before .before .before .before in
-    same-bytes (ap (λ (n : ℕ). libraryRefusedBytes n (at-refusal .refusal .given .0 .1 .0) (at-refusal .refusal .given .0 .1 .1 .0)) (at-number .number .ensures) ∙ library-refused-bytes (at-write-library .write-library .ensures) (sym (zeros-length 65536)) (sym (zeros-length 16384)) (at-refusal .refusal .given .1))
+    let at-writer = at-refusal .before .before .before .before in
+    same-bytes (ap (λ (n : ℕ). libraryRefusedBytes n (at-refusal .refusal .given .0 .1 .0) (at-refusal .refusal .given .0 .1 .1 .0)) (at-number .number .ensures) ∙ library-refused-bytes (at-writer .write-library .ensures) (sym (zeros-length 65536)) (sym (zeros-length 16384)) (at-refusal .refusal .given .1))
     (c .before .before .put-library-refused .ensures)
 
 same-length-2 : tie.Need-same-length-2
@@ -115,12 +91,12 @@ same-length-2 c = search needs
 
 returns-2 : tie.Need-returns-2
 returns-2 c =
-    let at-put-bytes-at = c .before .before .before .before .before .before .before in
-    let at-put-front = at-put-bytes-at .before .before .before .before .before in
-    let at-length = at-put-front .before .before .before in
-    let at-write-library = at-length .before .before .before .before in
-    same-bytes (library-accepted-bytes (at-write-library .write-library .ensures) (sym (zeros-length 65536)) (sym (zeros-length 16384)) (at-length .length .given .1))
-    (then-at (then-at (at-put-front .put-front .ensures .wrote) (at-put-bytes-at .put-bytes-at .ensures .wrote)) (c .before .before .put-bytes-at2 .ensures .wrote))
+    let p = c .before .before in
+    let l = p .before .before .before .before .before in
+    let w = l .before .before .before .before .write-library in
+    let h = writes-room (w .ensures) (l .length .given .1) in
+    let n = length-take-le (l .length .given .0 .0) (w .last .1 .1 .1 .0) (omega arith) in
+    same-bytes (by-length (l .length .given .0 .1 .0) (l .length .given .0 .1 .1 .0) (take (l .length .given .0 .0) (w .last .1 .1 .1 .0)) (take (37 * l .length .given .0 .1 .0) (w .last .1 .1 .1 .1 .0)) n ∙ library-accepted-bytes (w .ensures) (sym (zeros-length 65536)) (sym (zeros-length 16384)) (l .length .given .1)) (p .put-accepted .ensures)
 
 pub put-library-answer-spec : {M : Type 1} → statement M
 put-library-answer-spec =
@@ -133,14 +109,12 @@ put-library-answer-spec =
     number-requires
     put-library-refused-requires
     enum-known-length
-    put-front-requires
-    array-share-prefix-out
-    slice-aggregate-put-bytes-at
-    put-bytes-at-requires
     mul-report
     array-share-prefix-report
-    slice-aggregate-put-bytes-at-2
-    put-bytes-at-requires-2
+    slice-aggregate-told
+    array-share-prefix-out
+    slice-aggregate-put-accepted
+    put-accepted-requires
     same-length
     returns
     same-length-2
