@@ -1,6 +1,6 @@
 """Makes the data of the crate `cases`, and the list of definitions that its tests open.
 
-    python3 tools/computed_cases.py VECTORS     run in the repository's root
+    python3 tools/computed_cases.py VECTORS LIBRARIES     run in the repository's root
 
 VECTORS is a file of stored cases, one to a line: a name, the program's input in hex, and the
 lines that it prints, joined by `|`. From these the script takes small cells that together have
@@ -10,6 +10,10 @@ with shorter buffers stand in for them, with the answer that follows from the st
 document 01's rows are written here by hand. So are the streams (crates/cases/specs/Streams.antt), but
 for some of the stored cells; what is read from them is the answer of tools/reading_model.py, and what
 that is written to the answer of tools/model.py.
+LIBRARIES is such a file with one word more in front of the input, its job, of which `library` is taken:
+small libraries that together have every policy, odd and even names, no, one and more cells, entries of
+several cells and the reals 0.001 and 1e-9 in UNITS, and of every refusal the smallest, where those in a
+cell's elements count as one (crates/cases/specs/Libraries.antt).
 crates/cases/proofs/Open.antt opens every definition of the specs below `cases`."""
 import glob, os, re, struct, sys
 
@@ -17,7 +21,8 @@ import model
 import reading_model
 
 OUT, REPORT = 16384, 8192          # the program's buffers
-LARGEST = 700                      # bytes of input, so that the check stays quick
+OUTSIDE = 2**32 - 1                # the cell of a refusal outside a library's cells
+LARGEST, LARGEST_LIBRARY = 700, 480   # bytes of input, so that the check stays quick
 
 # ---- cells
 
@@ -112,15 +117,16 @@ def accepted(vectors):
     return chosen
 
 
-def shortened(vectors):
-    """The first cell with an entry: buffers that just hold it, an output one byte short, a report one byte short."""
+def shortened(vectors, entry=33, outside=""):
+    """The first with an entry: buffers that just hold it, an output one byte short, a report one byte short."""
     cells = []
-    for out, report, answer, why in ((0, 0, None, ", buffers just long enough"), (-1, 0, "no 21 0", ", output a byte short"),
-                                     (-1, -1, "no 21 0", ", both a byte short"), (0, -1, "no 22 0", ", report a byte short")):
-        v = Vector(next(x for x in vectors if x.fields[0] == "ok" and len(x.lines) > 2).line)
-        v.out, v.report = int(v.fields[1]) + out, 33 * int(v.fields[2]) + report
-        if answer:
-            v.fields = answer.split()
+    for out, report, number, why in ((0, 0, None, ", buffers just long enough"), (-1, 0, 21, ", output a byte short"),
+                                     (-1, -1, 21, ", both a byte short"), (0, -1, 22, ", report a byte short")):
+        first = next(x for x in vectors if x.fields[0] == "ok" and len(x.lines) > 2)
+        v = type(first)(first.line)
+        v.out, v.report = int(v.fields[1]) + out, entry * int(v.fields[2]) + report
+        if number:
+            v.fields = f"no {number} {outside}0".split()
         cells.append(v.cell(why))
     return cells
 
@@ -155,8 +161,8 @@ def read_vectors(path):
     return vectors
 
 
-def listing(name, cells):
-    return f"unfoldable pub {name} : List Case\n{name} =\n" + "".join(f"    {'∷ ' if k else ''}{c}\n" for k, c in enumerate(cells)) + "    ∷ []\n"
+def listing(name, cells, kind="Case"):
+    return f"unfoldable pub {name} : List {kind}\n{name} =\n" + "".join(f"    {'∷ ' if k else ''}{c}\n" for k, c in enumerate(cells)) + "    ∷ []\n"
 
 
 def cells_module(path):
@@ -169,6 +175,63 @@ use Rattle.cases.specs.Case.{Case, no, ok}
 
 -- document 01, "Rows": the program's example, and the array
 ''' + listing("rows", rows) + "\n-- stored cases, by their names\n" + listing("cells", cells)
+
+
+# ---- libraries
+
+
+class Library(Vector):
+    def __init__(self, line):
+        name, self.job, rest = line.split(" ", 2)
+        super().__init__(f"{name} {rest}")
+        self.line = line
+
+    def features(self):
+        """What an accepted library shows."""
+        head, *cells = blocks(self.input[9:])
+        name = head[2:-32]
+        report = [bytes.fromhex(e) for e in self.lines[2:]]
+        return {("policy", self.input[0]), ("cells", min(len(cells), 2)), ("length", len(name) % 2), ("zero", name[-1:] == b"\0"),
+                ("entries", tuple(sorted({e[3] for e in report}))), ("stamps", any(head[-24:])),
+                ("units", head[-32:-24] == struct.pack(">d", 0.001) and self.input[1:9] == struct.pack(">d", 1e-9))}
+
+    def fault(self):
+        """Of a refused library: the number and the cell; of a block in a cell, the cell alone; of 23, whether it has its pairs."""
+        number, cell, block = map(int, self.fields[1:])
+        return number if block == 0 else OUTSIDE, cell, number == 23 and self.has_pairs()
+
+    def has_pairs(self):
+        sheet = self.input[9:]
+        try:
+            parts = blocks(sheet)
+        except struct.error:
+            return False
+        return bool(parts) and all(parts) and sheet[4 + 8 * len(parts):] == b"".join(parts)
+
+    def expected(self):
+        if self.fields[0] == "no":
+            return "no " + " ".join(self.fields[1:])
+        return super().expected()
+
+
+def refused_libraries(libraries):
+    """For each fault the smallest."""
+    first = {}
+    for v in sorted((v for v in libraries if v.fields[0] == "no"), key=lambda v: len(v.input)):
+        first.setdefault(v.fault(), v)
+    return [first[f] for f in sorted(first)]
+
+
+def libraries_module(path):
+    stored = [Library(line) for line in open(path) if line.split(" ")[1] == "library"]
+    small = [v for v in stored if len(v.input) <= LARGEST_LIBRARY]
+    rows = [v.cell() for v in accepted(small) + refused_libraries(small)] + shortened(small, 37, f"{OUTSIDE} ")
+    return len(rows), '''-- Libraries and the answers that are known of them, from outside the definitions: made by tools/computed_cases.py. Assumes nothing.
+use mathlib.Core.List.{List, [], _∷_}
+use Rattle.cases.specs.LibraryCase.{LibraryCase, no, ok}
+
+-- stored libraries, by their names
+''' + listing("libraries", rows, "LibraryCase")
 
 
 # ---- streams
@@ -479,7 +542,7 @@ streams =
 
 # ---- the definitions that a computed test opens
 
-BELOW = "big_endian binary64 units gds_format conversion bounds survey parsing sheet stream cell reading".split()
+BELOW = "big_endian binary64 units gds_format conversion bounds survey parsing sheet stream cell library reading".split()
 IEEE = "ofBits toBits mul div sub neg lt le eq ofInt round sum add size".split()
 
 
@@ -502,10 +565,11 @@ def open_module():
 def main():
     count, cells = cells_module(sys.argv[1])
     number, rows = streams_module(sys.argv[1])
-    for path, content in (("specs/Cells.antt", cells), ("specs/Streams.antt", rows), ("proofs/Open.antt", open_module())):
+    several, libraries = libraries_module(sys.argv[2])
+    for path, content in (("specs/Cells.antt", cells), ("specs/Streams.antt", rows), ("specs/Libraries.antt", libraries), ("proofs/Open.antt", open_module())):
         with open("crates/cases/" + path, "w") as f:
             f.write(content)
-    print(f"{count} cells, {number} streams")
+    print(f"{count} cells, {number} streams, {several} libraries")
 
 
 main()

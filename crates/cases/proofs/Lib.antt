@@ -2,6 +2,7 @@
 pub mod Open
 pub mod Rows
 pub mod CellsPass
+pub mod LibrariesPass
 pub mod StreamsPass
 pub mod LimitsPass
 pub mod NeighboursPass

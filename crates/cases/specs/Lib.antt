@@ -1,6 +1,8 @@
--- Cells and streams with the answers that are known of them, and what it is for the definitions to give these.
+-- Cells, libraries and streams with the answers that are known of them, and what it is for the definitions to give these.
 pub mod Case
 pub mod Cells
+pub mod LibraryCase
+pub mod Libraries
 pub mod Streams
 pub mod Limits
 pub mod Neighbours
