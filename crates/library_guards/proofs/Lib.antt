@@ -1,0 +1,5 @@
+-- The guards of a library file.
+pub mod HeadsLaws
+pub mod NumbersLaws
+pub mod OrdersLaws
+pub mod LimitsLaws

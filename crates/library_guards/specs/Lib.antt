@@ -1,0 +1,4 @@
+-- A second telling of what a library file draws, and test data.
+pub mod Heads
+pub mod Numbers
+pub mod Orders

@@ -1,0 +1,1 @@
+// Guards of the trusted definitions of a library file: a second telling and test data in specs/, laws and computed tables in proofs/.
