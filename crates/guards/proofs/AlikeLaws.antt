@@ -34,7 +34,7 @@ pub all : (ts : Told.Tests) → T (Told.all ts) → All T ts
 all [] t = done
 all (b ∷ ts) t = more (and-l b (Told.all ts) t) (all ts (and-r b (Told.all ts) t))
 
-bytes : (s t : List ℕ) → T (sameBytes s t) → s ≡ t
+pub bytes : (s t : List ℕ) → T (sameBytes s t) → s ≡ t
 bytes [] [] h = refl
 bytes [] (b ∷ t) h = absurd h
 bytes (a ∷ s) [] h = absurd h

@@ -29,7 +29,7 @@ pub all-bytes : (s : List ℕ) → T (allBytes s) → Bytes s
 all-bytes [] t = bytes-nil
 all-bytes (b ∷ s) t = bytes-cons b s (ltb→lt b 256 (and-l (ltb b 256) (allBytes s) t)) (all-bytes s (and-r (ltb b 256) (allBytes s) t))
 
-bytes-all : (s : List ℕ) → Bytes s → T (allBytes s)
+pub bytes-all : (s : List ℕ) → Bytes s → T (allBytes s)
 bytes-all [] h = tt
 bytes-all (b ∷ s) h = and-i (ltb b 256) (allBytes s) (lt→ltb b 256 (h 0)) (bytes-all s (λ i. h (suc i)))
 

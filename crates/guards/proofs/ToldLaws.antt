@@ -40,7 +40,7 @@ bytes-refl : (s : List ℕ) → T (sameBytes s s)
 bytes-refl [] = tt
 bytes-refl (b ∷ s) = and-i (eqb b b) (sameBytes s s) (eqb-refl b) (bytes-refl s)
 
-bytes : {s t : List ℕ} → s ≡ t → T (sameBytes s t)
+pub bytes : {s t : List ℕ} → s ≡ t → T (sameBytes s t)
 bytes {s} e = subst (λ (t : List ℕ). T (sameBytes s t)) e (bytes-refl s)
 
 int : {y z : ℤ} → y ≡ z → T (sameInt y z)

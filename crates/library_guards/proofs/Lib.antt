@@ -1,4 +1,5 @@
 -- The guards of a library file.
+pub mod ToldLaws
 pub mod HeadsLaws
 pub mod NumbersLaws
 pub mod OrdersLaws
