@@ -4,3 +4,4 @@ pub mod HeadsLaws
 pub mod NumbersLaws
 pub mod OrdersLaws
 pub mod LimitsLaws
+pub mod FilesLaws

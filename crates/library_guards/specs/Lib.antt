@@ -3,3 +3,4 @@ pub mod Told
 pub mod Heads
 pub mod Numbers
 pub mod Orders
+pub mod Files
