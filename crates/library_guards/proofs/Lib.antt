@@ -5,3 +5,4 @@ pub mod NumbersLaws
 pub mod OrdersLaws
 pub mod LimitsLaws
 pub mod FilesLaws
+pub mod Whole

@@ -1,10 +1,10 @@
 -- What a library file draws, told a second time as a test that computes (document 02, request 1: "The drawing statement holds for each structure of an accepted file"; "HEADER 0x0258, BGNLIB,
--- LIBNAME, UNITS, the structures, ENDLIB"): the front is taken off the file, and every place is tried where a structure may end. A file draws a library exactly where it passes
--- (proofs/ToldLaws). Assumes nothing.
+-- LIBNAME, UNITS, the structures, ENDLIB"): the front and ENDLIB are taken off the file, and every place is tried where a structure may end. A file draws a library exactly where it
+-- passes (proofs/ToldLaws). Assumes nothing.
 use mathlib.Core.Bool.{Bool, false, _&&_, _||_, cond}
 use mathlib.Core.Option.{Option, none, some}
 use mathlib.Core.List.{List, [], _∷_}
-use Prim.Native.Nat.{ℕ, zero, suc}
+use Prim.Native.Nat.{ℕ, zero, suc, _-_}
 use lib.Dec.{eqb}
 use lib.ListN.{length, take, drop}
 use lib.Ieee.{Float}
@@ -26,14 +26,19 @@ after [] t = some t
 after (a ∷ s) [] = none
 after (a ∷ s) (b ∷ t) = cond (eqb a b) (after s t) none
 
--- ---- the structures, each by its test
+-- what stands before ENDLIB, where t ends with it
+abbrev pub beforeEnd : List ℕ → Option (List ℕ)
+beforeEnd t = cond (sameBytes (drop (length t - 4) t) fileEndBytes) (some (take (length t - 4) t)) none
+
+-- ---- the structures, each by its test: the last is all that is left
 
 abbrev pub Test : Type 0
 Test = List ℕ → Bool
 
 abbrev pub inParts : List Test → List ℕ → Bool
-inParts [] b = sameBytes b fileEndBytes
-inParts (t ∷ ts) b = some-below (suc (length b)) (λ k. t (take k b) && inParts ts (drop k b))
+inParts [] b = sameBytes b []
+inParts (t ∷ []) b = t b
+inParts (t ∷ u ∷ ts) b = some-below (suc (length b)) (λ k. inParts (u ∷ ts) (drop k b) && t (take k b))
 
 abbrev pub tests : ℕ → Float → List (List ℕ) → List Test
 tests policy d [] = []
@@ -41,9 +46,13 @@ tests policy d (s ∷ ss) = draws policy d s ∷ tests policy d ss
 
 -- ---- the whole
 
+abbrev pub within : List Test → Option (List ℕ) → Bool
+within ts none = false
+within ts (some b) = inParts ts b
+
 abbrev pub behind : List Test → Option (List ℕ) → Bool
 behind ts none = false
-behind ts (some b) = inParts ts b
+behind ts (some b) = within ts (beforeEnd b)
 
 abbrev pub inFile : List Test → List ℕ → Option FileHead → Bool
 inFile ts file none = false
