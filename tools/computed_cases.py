@@ -119,10 +119,12 @@ def accepted(vectors):
 
 def shortened(vectors, entry=33, outside=""):
     """The first with an entry: buffers that just hold it, an output one byte short, a report one byte short."""
+    first = next((x for x in vectors if x.fields[0] == "ok" and len(x.lines) > 2), None)
+    if first is None:
+        raise ValueError("no small case has a report entry")
     cells = []
     for out, report, number, why in ((0, 0, None, ", buffers just long enough"), (-1, 0, 21, ", output a byte short"),
                                      (-1, -1, 21, ", both a byte short"), (0, -1, 22, ", report a byte short")):
-        first = next(x for x in vectors if x.fields[0] == "ok" and len(x.lines) > 2)
         v = type(first)(first.line)
         v.out, v.report = int(v.fields[1]) + out, entry * int(v.fields[2]) + report
         if number:
@@ -223,7 +225,7 @@ def refused_libraries(libraries):
 
 
 def libraries_module(path):
-    stored = [Library(line) for line in open(path) if line.split(" ")[1] == "library"]
+    stored = [Library(line) for line in open(path) if line.split(" ", 2)[1:2] == ["library"]]
     small = [v for v in stored if len(v.input) <= LARGEST_LIBRARY]
     rows = [v.cell() for v in accepted(small) + refused_libraries(small)] + shortened(small, 37, f"{OUTSIDE} ")
     return len(rows), '''-- Libraries and the answers that are known of them, from outside the definitions: made by tools/computed_cases.py. Assumes nothing.
@@ -563,13 +565,21 @@ def open_module():
 
 
 def main():
-    count, cells = cells_module(sys.argv[1])
-    number, rows = streams_module(sys.argv[1])
-    several, libraries = libraries_module(sys.argv[2])
+    if len(sys.argv) != 3:
+        print("computed_cases.py: it takes a file of cells and a file of libraries", file=sys.stderr)
+        return 2
+    try:
+        count, cells = cells_module(sys.argv[1])
+        number, rows = streams_module(sys.argv[1])
+        several, libraries = libraries_module(sys.argv[2])
+    except (OSError, ValueError) as why:
+        print(f"computed_cases.py: {why}", file=sys.stderr)
+        return 1
     for path, content in (("specs/Cells.antt", cells), ("specs/Streams.antt", rows), ("specs/Libraries.antt", libraries), ("proofs/Open.antt", open_module())):
         with open("crates/cases/" + path, "w") as f:
             f.write(content)
     print(f"{count} cells, {number} streams, {several} libraries")
+    return 0
 
 
-main()
+sys.exit(main())
