@@ -11,9 +11,9 @@ document 01's rows are written here by hand. So are the streams (crates/cases/sp
 for some of the stored cells; what is read from them is the answer of tools/reading_model.py, and what
 that is written to the answer of tools/model.py.
 LIBRARIES is such a file with one word more in front of the input, its job, of which `library` is taken:
-small libraries that together have every policy, odd and even names, no, one and more cells, entries of
-several cells and the reals 0.001 and 1e-9 in UNITS, and of every refusal the smallest, where those in a
-cell's elements count as one (crates/cases/specs/Libraries.antt).
+small libraries that together have every policy, with entries and without, odd and even names, no, one and
+more cells, entries of several cells and the reals 0.001 and 1e-9 in UNITS, and of every refusal the
+smallest, where those in a cell's elements count as one (crates/cases/specs/Libraries.antt).
 crates/cases/proofs/Open.antt opens every definition of the specs below `cases`."""
 import glob, os, re, struct, sys
 
@@ -22,7 +22,7 @@ import reading_model
 
 OUT, REPORT = 16384, 8192          # the program's buffers
 OUTSIDE = 2**32 - 1                # the cell of a refusal outside a library's cells
-LARGEST, LARGEST_LIBRARY = 700, 480   # bytes of input, so that the check stays quick
+LARGEST, LARGEST_LIBRARY = 700, 600   # bytes of input, so that the check stays quick
 
 # ---- cells
 
@@ -193,7 +193,7 @@ class Library(Vector):
         head, *cells = blocks(self.input[9:])
         name = head[2:-32]
         report = [bytes.fromhex(e) for e in self.lines[2:]]
-        return {("policy", self.input[0]), ("cells", min(len(cells), 2)), ("length", len(name) % 2), ("zero", name[-1:] == b"\0"),
+        return {("policy", self.input[0], bool(report)), ("cells", min(len(cells), 2)), ("length", len(name) % 2), ("zero", name[-1:] == b"\0"),
                 ("entries", tuple(sorted({e[3] for e in report}))), ("stamps", any(head[-24:])),
                 ("units", head[-32:-24] == struct.pack(">d", 0.001) and self.input[1:9] == struct.pack(">d", 1e-9))}
 

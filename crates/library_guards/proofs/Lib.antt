@@ -5,4 +5,5 @@ pub mod NumbersLaws
 pub mod OrdersLaws
 pub mod LimitsLaws
 pub mod FilesLaws
+pub mod WrittenLaws
 pub mod Whole

@@ -73,6 +73,10 @@ layered = x 43 0x040100000200010140040000000000003ff0000000000000000000000000000
 abbrev pointless : List ℕ
 pointless = x 9 0x040001000200000000
 
+-- and one at (2 ^ 30, 0), for 19 in a unit of 1/16
+abbrev distant : List ℕ
+distant = x 43 0x040001000200010141d00000000000003ff00000000000000000000000000000003ff00000000000000000
+
 -- a sheet of one byte, for 4
 abbrev noSheet : List ℕ
 noSheet = 0 ∷ []
@@ -152,6 +156,8 @@ insides =
     ∷ inside (cell A [] ∷ noSheet ∷ cell noName [] ∷ []) 4 1 0 {- cell 1, then cell 2 -}
     ∷ inside (cell A [] ∷ cell B (node ∷ layered ∷ []) ∷ noSheet ∷ []) 9 1 2
     ∷ inside (cell A [] ∷ cell B [] ∷ cell A (pointless ∷ []) ∷ []) 8 2 1 {- one name twice is no fault -}
+    ∷ row 3 one (sheetOf (good ∷ cell A [] ∷ cell B (node ∷ []) ∷ noSheet ∷ [])) 18 1 1 {- the policy is every cell's: strict -}
+    ∷ row 0 0x3fb0000000000000 (sheetOf (good ∷ cell A (distant ∷ []) ∷ cell B [] ∷ [])) 19 0 1 {- and so is d -}
     ∷ inside (cell A [] ∷ sheetOf ((B ++ noDate) ∷ []) ∷ []) 6 1 0 {- the library's 6, cell 0's and cell 1's have cells of their own -}
     ∷ inside (sheetOf ((B ++ noDate) ∷ []) ∷ cell A [] ∷ []) 6 0 0
     ∷ of (head one noDate) (sheetOf ((B ++ noDate) ∷ []) ∷ []) 6
