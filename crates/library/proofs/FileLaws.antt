@@ -1,8 +1,8 @@
 -- The file's own records and its report: what they are made of, and how long they are. Assumes nothing.
-use mathlib.Core.Path.{_≡_, refl, sym, ap, _∙_, subst}
+use mathlib.Core.Path.{_≡_, refl, ap, _∙_, subst}
 use mathlib.Core.Bool.{Bool, true, false, cond}
 use mathlib.Core.Option.{Option, none, some}
-use mathlib.Core.List.{List, [], _∷_, _++_}
+use mathlib.Core.List.{List, [], _∷_}
 use Prim.Native.Nat.{ℕ, suc, _+_, _*_, _≤_}
 use native.Mathlib.Omega.{arith}
 use lib.Dec.{T}
@@ -17,8 +17,8 @@ use Rattle.conversion.specs.Entry.{reportWith}
 use Rattle.conversion.proofs.EntryLaws.{length-report}
 use Rattle.sheet.specs.Library.{LibraryHead}
 use Rattle.sheet.proofs.Fine.{FineLibraryHead}
-use Rattle.stream.specs.Record.{Rec, recordBytes, streamBytes}
-use Rattle.stream.specs.Records.{emptyRecord, wordRecord, stringRecord, wordsBytes}
+use Rattle.stream.specs.Record.{recordBytes, streamBytes}
+use Rattle.stream.specs.Records.{emptyRecord, wordRecord, stringRecord}
 use Rattle.stream.specs.Strings.{padded}
 use Rattle.stream.specs.Library.{HEADER, LIBNAME, ENDLIB, version, FileHead, beginRecord, unitsRecord, fileHeadRecords, fileHeadBytes, fileEndBytes}
 use Rattle.stream.proofs.RecordLaws.{bytes-record}

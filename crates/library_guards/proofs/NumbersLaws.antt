@@ -6,8 +6,6 @@ use Prim.Native.Nat.{ℕ}
 use lib.IntN.{pos}
 use lib.Ieee.{binary64, toBits}
 use Rattle.conversion.specs.declared.Entry.{Entry}
-use Rattle.sheet.specs.Library.{LibraryHead}
-use Rattle.stream.specs.Structure.{Structure}
 use Rattle.stream.specs.Library.{FileHead}
 use Rattle.library.specs.Library.{WrittenCell, noCell, libraryEntryLength, fileHeadOf, reportFrom, entriesIn, greatestIn}
 use Rattle.cases.specs.Case.{halved}

@@ -1,7 +1,7 @@
 -- Block 0 checked: 23, 6, 24, 25, one law for each way out of the code; and how long its records are. Assumes nothing.
-use mathlib.Core.Path.{_≡_, refl, sym, ap, _∙_, subst}
+use mathlib.Core.Path.{_≡_, sym, ap, _∙_, subst}
 use mathlib.Core.Bool.{Bool, true, false, not}
-use mathlib.Core.Option.{Option, none, some}
+use mathlib.Core.Option.{Option, some}
 use mathlib.Core.List.{List, [], _∷_}
 use Prim.Native.Nat.{ℕ, _+_, _%_, _≤_, _<_}
 use native.Mathlib.Omega.{arith}
@@ -10,18 +10,16 @@ use lib.ListN.{length, length-append}
 use lib.Ieee.{Float}
 use borrow.Author.Tests.{le-leb, lt-leb, not-true, not-false}
 use Rattle.refusal.specs.declared.Refusal.the-variants as R
-use Rattle.big_endian.specs.Big.{bytesOf}
 use Rattle.big_endian.proofs.BigLaws.{length-bytesOf}
-use Rattle.conversion.specs.Made.{Made, refused, pure, need, _>>=_, _>>_}
 use Rattle.conversion.proofs.MadeLaws.{need-on, need-off}
 use Rattle.sheet.specs.Library.{LibraryHead, libraryHeadOf}
 use Rattle.stream.specs.Record.{streamBytes}
-use Rattle.stream.specs.Records.{wordRecord, stringRecord, wordsBytes}
-use Rattle.stream.specs.Library.{HEADER, LIBNAME, version, FileHead, beginRecord, unitsRecord, fileHeadRecords, fileHeadBytes}
+use Rattle.stream.specs.Records.{wordRecord, stringRecord}
+use Rattle.stream.specs.Library.{HEADER, LIBNAME, version, beginRecord, unitsRecord, fileHeadRecords, fileHeadBytes}
 use Rattle.cell.specs.Stamps.{stampsFit}
 use Rattle.library.specs.Library.{maxLibraryNameLength, fileHeadOf}
 use Rattle.records.proofs.RecordLaws.{length-first, length-padded}
-use Rattle.forms.specs.code.Place.{wordsFrom, stringAt, stringEnd, doubleAt}
+use Rattle.forms.specs.code.Place.{wordsFrom, stringAt, doubleAt}
 use Rattle.walk.proofs.HeadLaws.{length-words, words-bytes}
 use Rattle.library_head.specs.declared.HeadForm.{HeadForm}
 use Rattle.library_head.specs.declared.HeadForm.the-variants as F

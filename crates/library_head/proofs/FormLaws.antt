@@ -1,5 +1,5 @@
 -- The form of block 0: one law for each way out of its check. Assumes nothing.
-use mathlib.Core.Path.{_≡_, refl, ap, _∙_}
+use mathlib.Core.Path.{_≡_, refl, ap}
 use mathlib.Core.Bool.{Bool, true, false}
 use mathlib.Core.List.{List}
 use Prim.Native.Nat.{ℕ, _+_, _≤_, _<_}
@@ -8,7 +8,7 @@ use lib.Dec.{leb, ltb}
 use lib.ListN.{length, drop, length-drop}
 use borrow.Author.Tests.{leb-true, leb-false, ltb-true, ltb-false}
 use Rattle.parsing.specs.Parse.{ill, part, illFormed, ended, pure, times, _>>=_}
-use Rattle.sheet.specs.Form.{Form, num, double}
+use Rattle.sheet.specs.Form.{num, double}
 use Rattle.sheet.specs.Library.{LibraryHead, libraryHeadForm, libraryHeadOf}
 use Rattle.forms.specs.code.Place.{stringAt, stringEnd}
 use Rattle.forms.proofs.Step.{on, off, string-at, string-long, double-at, ends, ends-not}

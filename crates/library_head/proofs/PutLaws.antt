@@ -1,11 +1,11 @@
 -- The file's own records in the output. Assumes nothing.
-use mathlib.Core.Path.{_≡_, ap, subst}
+use mathlib.Core.Path.{_≡_, subst}
 use mathlib.Core.List.{List}
 use Prim.Native.Nat.{ℕ, _+_, _-_, _%_, _≤_}
 use lib.ListN.{length, take, drop}
 use Rattle.big_endian.specs.Big.{Bytes, bytesOf}
 use Rattle.big_endian.specs.Buffer.{WroteAt}
-use Rattle.stream.specs.Record.{twoByte, recordBytes}
+use Rattle.stream.specs.Record.{twoByte}
 use Rattle.stream.specs.Records.{stringRecord}
 use Rattle.stream.specs.Strings.{padded}
 use Rattle.stream.specs.Library.{HEADER, BGNLIB, LIBNAME, version, unitsRecord, fileHeadRecords, fileHeadBytes}

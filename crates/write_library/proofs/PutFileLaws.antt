@@ -1,11 +1,10 @@
 -- The file written: its own records, each cell's structure, and ENDLIB. Assumes nothing.
 use mathlib.Core.Path.{_≡_, refl, sym, ap, _∙_, subst}
-use mathlib.Core.Bool.{true}
-use mathlib.Core.List.{List, [], _∷_, _++_, append-nil}
+use mathlib.Core.List.{List, _++_, append-nil}
 use Prim.Native.Nat.{ℕ, _+_, _-_, _≤_}
 use native.Mathlib.Omega.{arith}
 use lib.Dec.{T}
-use lib.ListN.{length, take, drop, length-append, length-take, length-drop}
+use lib.ListN.{length, take, drop, length-take, length-drop}
 use lib.Ieee.{Float}
 use lib.Ieee.Bits.{is-true}
 use Rattle.big_endian.specs.Buffer.{Wrote, WroteAt}
@@ -19,16 +18,15 @@ use Rattle.stream.specs.Record.{recordBytes, streamBytes}
 use Rattle.stream.specs.Records.{emptyRecord}
 use Rattle.stream.specs.Library.{ENDLIB, FileHead, fileHeadBytes, fileEndBytes}
 use Rattle.records.specs.code.Bytes.{Recorded}
-use Rattle.records.proofs.RecordLaws.{alone}
 use Rattle.walk.specs.declared.Ends.{Ends}
-use Rattle.library.specs.Library.{Result, stopped, written, WrittenCell, writeCells, LibraryFile, fileWith, writeHeaded, writeLibrarySheet, cellsBytes, fileBytes, reportFrom}
+use Rattle.library.specs.Library.{Result, stopped, written, WrittenCell, writeCells, LibraryFile, fileWith, writeLibrarySheet, cellsBytes, fileBytes, reportFrom}
 use Rattle.library.proofs.ResultLaws.{check-passed}
 use Rattle.library_head.specs.declared.HeadParts.{HeadParts}
 use Rattle.library_head.specs.declared.HeadChecked.{HeadChecked}
 use Rattle.library_head.specs.declared.HeadChecked.the-variants as H
 use Rattle.library_head.specs.code.Head.{fileHeadAt, HeadIn, stepOf, HeadRead}
 use Rattle.write_library.specs.code.File.{CellsFit, PutsCells, FileFits, PutsFile}
-use Rattle.write_library.proofs.FileLaws.{end-length, file-length, afterHead, as-checked}
+use Rattle.write_library.proofs.FileLaws.{file-length, afterHead, as-checked}
 
 -- what is written was put together of the head and the cells
 record Whole (f : FileHead) (x : Result (List WrittenCell)) (l : LibraryFile) : Type 0 where

@@ -9,7 +9,7 @@ use lib.ListN.{length}
 use lib.Ieee.{Float}
 use Rattle.big_endian.specs.Big.{bytesOf}
 use Rattle.refusal.specs.declared.Refusal.the-variants as R
-use Rattle.conversion.specs.Made.{Made, refused, pure, need, _>>=_, _>>_}
+use Rattle.conversion.specs.Made.{Made, refused, pure, need, _>>_}
 use Rattle.sheet.specs.Library.{LibraryHead, libraryHeadOf}
 use Rattle.stream.specs.Strings.{padded}
 use Rattle.stream.specs.Library.{FileHead, fileHeadBytes}

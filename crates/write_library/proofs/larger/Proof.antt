@@ -1,7 +1,6 @@
 -- `write_library::larger` meets its contract. Assumes nothing.
 use mathlib.Core.Path.{sym, ap}
 use mathlib.Core.Bool.{Bool, cond}
-use borrow.Author.Needs.{needs}
 use Rattle.write_library.proofs.larger.Statement.{statement}
 use Rattle.write_library.proofs.larger.Tie as tie
 
