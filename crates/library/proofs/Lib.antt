@@ -6,3 +6,4 @@ pub mod FileLaws
 pub mod OrderLaws
 pub mod MeasureLaws
 pub mod DrawsLaws
+pub mod AloneLaws

@@ -4,3 +4,4 @@ pub mod Answer
 pub mod Order
 pub mod Agree
 pub mod Draws
+pub mod Alone

@@ -10,10 +10,10 @@ ghost use Rattle.sheet.specs.Library.{libraryHeadOf};
 ghost use Rattle.library_head.specs.code.Head.{PartsIn, FormRead, UnitsRead, libraryHeadAt, fileHeadAt, HeadIn, HeadRead};
 ghost use mathlib.Core.Option.{some};
 
-// Where the name stands in block 0; the user unit follows it, and then the stamps.
+// Where the name stands in block 0. The user unit follows it, a double, and then the stamps.
 const NAME: usize = 0;
 
-const USER_UNIT: usize = 8;
+const DOUBLE: usize = 8;
 
 // "HEADER 0x0258" (document 02, request 1).
 const VERSION: u16 = 0x0258;
@@ -57,7 +57,7 @@ fn head_form(b: &[u8]) -> HeadForm
         return HeadForm::Ill;
     }
     let unit = forms::string_end(b, NAME);
-    if b.len() != unit + USER_UNIT + forms::STAMPS {
+    if b.len() != unit + DOUBLE + forms::STAMPS {
         return HeadForm::Ill;
     }
     HeadForm::Head { unit }
@@ -87,7 +87,7 @@ fn check_parts(b: &[u8], unit: usize, d: f64) -> HeadChecked
     requires { ⌜ PartsIn (now b) unit ⌝ }
     ensures { λ r. ⌜ HeadRead d (now (b .entry)) (some (libraryHeadAt (now (b .entry)) unit)) r ⌝ }
 {
-    let stamps = unit + USER_UNIT;
+    let stamps = unit + DOUBLE;
     if !validation::stamps_fit(b, stamps) {
         return HeadChecked::Refused {
             refusal: Refusal::Stamp,

@@ -1,11 +1,12 @@
--- How many pairs there are where they fit, the blocks after the head in turn, and that blocks are bytes. Assumes nothing.
+-- How many pairs there are where they fit, the blocks after the head in turn, and that blocks are no longer than the sheet and are bytes. Assumes nothing.
 use mathlib.Core.Path.{_≡_, ap, _∙_}
 use mathlib.Core.Bool.{_&&_}
 use mathlib.Core.List.{List, [], _∷_}
 use Prim.Native.Nat.{ℕ, zero, suc, _+_, _-_, _*_, _≤_, _<_}
+use native.Mathlib.Nat.{le-trans}
 use native.Mathlib.Omega.{arith}
 use lib.Dec.{T, leb, leb→le}
-use lib.ListN.{length}
+use lib.ListN.{length, length-take, length-drop}
 use lib.Ieee.Bits.{is-true}
 use lib.Ieee.Fits.{and-l, and-r}
 use Rattle.big_endian.specs.Big.{Bytes}
@@ -52,6 +53,17 @@ unfolding blocksFrom
 blocks-end n k s h =
     let z : n - k ≡ 0 = omega arith in
     ap (λ (j : ℕ). blocksFrom j k s) z
+
+-- ---- no block is longer than the sheet
+
+pub block-within : (s : List ℕ) (k : ℕ) → length (blockOf s k) ≤ length s
+unfolding blockOf
+block-within s k = simp (length-take, length-drop) (omega arith)
+
+pub blocks-within : (n k m : ℕ) (s : List ℕ) → length s ≤ m → All (λ b. length b ≤ m) (blocksFrom n k s)
+unfolding blocksFrom
+blocks-within zero k m s h = done
+blocks-within (suc n) k m s h = more (le-trans (block-within s k) h) (blocks-within n (suc k) m s h)
 
 -- ---- blocks are bytes
 

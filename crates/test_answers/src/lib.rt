@@ -2,6 +2,7 @@
 use cell::Answer;
 use conversion::ENTRY_LENGTH;
 use library::LibraryAnswer;
+use write_library::LIBRARY_ENTRY_LENGTH;
 ghost use mathlib.Core.List.{_++_};
 ghost use Prim.Native.Nat.{_+_, _≤_};
 ghost use lib.ListN.{length};
@@ -13,9 +14,6 @@ ghost use Rattle.test_answers.specs.Answer.{refusedBytes, libraryRefused
 
 // The job of a case: any other byte is a library.
 const CELL: u8 = 0;
-
-// A library's entry, after its cell's number.
-const LIBRARY_ENTRY_LENGTH: usize = 37;
 
 // The first byte of an answer.
 const REFUSED: u8 = 0;

@@ -6,7 +6,7 @@ use Prim.Native.Nat.{ℕ, suc, _+_, _-_, _*_, _≤_, _<_}
 use native.Mathlib.Nat.{add-zero}
 use native.Mathlib.Omega.{arith}
 use lib.Dec.{T, eqb}
-use lib.ListN.{length, length-take, length-drop}
+use lib.ListN.{length}
 use lib.Ieee.{Float, lt}
 use borrow.Author.Tests.{eq-eqb, ne-eqb, not-false}
 use Rattle.binary64.specs.Value.{zero64}
@@ -28,7 +28,7 @@ use Rattle.elements.proofs.BlockLaws.{Met, met}
 use Rattle.walk.specs.declared.Totals.{Totals}
 use Rattle.walk.specs.declared.Totals.the-variants as T
 use Rattle.walk.specs.code.Walk.{totalsFrom}
-use Rattle.sheet.proofs.CountLaws.{blocks-turn, blocks-end}
+use Rattle.sheet.proofs.CountLaws.{block-within, blocks-turn, blocks-end}
 use Rattle.walk.proofs.WalkLaws.{totals-stop, totals-turn}
 
 -- ---- an entry
@@ -60,10 +60,6 @@ greatest-stands g e t h k = sym (ap (greatestFrom g) (stands e h) ∙ ap (λ (u 
 -- t is the code's answer, which it asks for as `if !t`
 pub pairs-hold : (s : List ℕ) (t : Bool) → t ≡ pairsFit s → not t ≡ false → T (pairsFit s)
 pairs-hold s t e f = subst T (sym (not-false t f) ∙ e) tt
-
-pub block-within : (s : List ℕ) (k : ℕ) → length (blockOf s k) ≤ length s
-unfolding blockOf
-block-within s k = simp (length-take, length-drop) (omega arith)
 
 -- a block adds little to the length
 pub block-short : (s : List ℕ) (k : ℕ) (b : List ℕ) (r : Measured) (size : ℕ) (e : Entry) → length s ≤ maxSheetLength → b ≡ blockOf s k → Short (length b) r → r ≡ M.Through size e

@@ -28,7 +28,7 @@ const NO_CELL: usize = 4294967295;
 const ENDLIB_LENGTH: usize = 4;
 
 // An entry after the 4 bytes of its cell's number.
-const ENTRY_LENGTH: usize = 37;
+pub const LIBRARY_ENTRY_LENGTH: usize = 37;
 
 // How many cells there are: every block but block 0.
 fn cell_count(sheet: &[u8]) -> usize
@@ -229,7 +229,7 @@ fn write_file(
             entries,
             greatest,
         } => {
-            let size = ENTRY_LENGTH * entries;
+            let size = LIBRARY_ENTRY_LENGTH * entries;
             if out.len() < length {
                 return LibraryAnswer::Refused {
                     refusal: Refusal::OutputShort,

@@ -13,8 +13,8 @@ use Rattle.sheet.specs.Cell.{elementBlocks}
 use Rattle.cell.specs.Limits.{maxSheetLength}
 use Rattle.cell.specs.Cell.{writeBlocks}
 use Rattle.walk.specs.code.Walk.{totalsFrom}
-use Rattle.sheet.proofs.CountLaws.{pairs-count, block-in}
-use Rattle.walk.proofs.BlocksLaws.{block-within, block-short, stands-once, left, left-start, left-stop, left-turn, left-end}
+use Rattle.sheet.proofs.CountLaws.{pairs-count, block-in, block-within}
+use Rattle.walk.proofs.BlocksLaws.{block-short, stands-once, left, left-start, left-stop, left-turn, left-end}
 use Rattle.walk.proofs.measure_elements.Statement.{statement}
 use Rattle.walk.proofs.measure_elements.Tie as tie
 

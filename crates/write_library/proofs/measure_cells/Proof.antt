@@ -11,9 +11,8 @@ use Rattle.conversion.specs.declared.GdsRoundingPolicy.{GdsRoundingPolicy}
 use Rattle.conversion.proofs.DeviationLaws.{zero-is}
 use Rattle.sheet.specs.Blocks.{maxPairs, pairCount}
 use Rattle.sheet.specs.Library.{cellSheets}
-use Rattle.sheet.proofs.CountLaws.{pairs-count, block-in}
+use Rattle.sheet.proofs.CountLaws.{pairs-count, block-in, block-within}
 use Rattle.cell.specs.Limits.{maxSheetLength}
-use Rattle.walk.proofs.BlocksLaws.{block-within}
 use Rattle.library.specs.Library.{writeCells}
 use Rattle.write_library.specs.code.File.{maxFrontLength, totalsFrom}
 use Rattle.write_library.proofs.CellsLaws.{answer-small, left, left-start, left-stop, left-turn, left-end}
