@@ -1,19 +1,15 @@
 -- The bytes of an answer from the writers' promises. Assumes nothing.
-use mathlib.Core.Path.{_≡_, refl, sym, ap, ap₂, _∙_}
+use mathlib.Core.Path.{_≡_, sym, ap, ap₂, _∙_}
 use mathlib.Core.Bool.{Bool, cond}
-use mathlib.Core.List.{List, [], _∷_, _++_}
-use Prim.Native.Nat.{ℕ, _+_, _*_, _%_, _^_}
-use native.Mathlib.Nat.{mod-mod}
+use mathlib.Core.List.{List, [], _++_}
+use Prim.Native.Nat.{ℕ, _+_, _*_}
 use native.Mathlib.Omega.{arith}
 use lib.ListN.{length, take, drop, replicate, length-replicate}
 use lib.Seq.{take-at}
-use lib.Ieee.{Float, binary64, toBits}
+use lib.Ieee.{Float}
 use borrow.Author.Tests.{eq-eqb, ne-eqb}
-use Rattle.big_endian.specs.Big.{bytesOf}
 use Rattle.big_endian.specs.Buffer.{over, WroteAt}
 use Rattle.big_endian.proofs.BufferLaws.{from-zero, same-bytes}
-use Rattle.big_endian.proofs.BytesLaws.{bytes-bytesOf, number-once}
-use Rattle.big_endian.proofs.BigLaws.{length-bytesOf, number-bytesOf}
 use Rattle.refusal.specs.declared.Refusal.{Refusal}
 use Rattle.refusal.specs.Number.{number}
 use Rattle.conversion.specs.Entry.{reportBytes}
@@ -34,28 +30,10 @@ use Rattle.library.specs.Answer as LA
 use Rattle.library.proofs.AnswerLaws as LibraryOnce
 use Rattle.library.proofs.FileLaws.{report-length}
 use Rattle.write_library.specs.Writer.{WritesLibrary}
-use Rattle.test_answers.specs.Answer.{refusedBytes, libraryRefusedBytes, frontBytes, cellBytes, libraryBytes, answerBytes}
+use Rattle.test_bytes.specs.Bytes.{refusedBytes, libraryRefusedBytes, frontBytes}
+use Rattle.test_answers.specs.Answer.{cellBytes, libraryBytes, answerBytes}
 
 -- ---- a cell's answer
-
--- what is above the bytes is lost
-pub bytesOf-rest : (k v : ℕ) → bytesOf k (v % 256 ^ k) ≡ bytesOf k v
-bytesOf-rest k v =
-    number-once (bytesOf k (v % 256 ^ k)) (bytesOf k v) (bytes-bytesOf k (v % 256 ^ k)) (bytes-bytesOf k v) (length-bytesOf k (v % 256 ^ k) ∙ sym (length-bytesOf k v))
-    (number-bytesOf k (v % 256 ^ k) ∙ mod-mod v (256 ^ k) ∙ sym (number-bytesOf k v))
-
--- a block of any size in its 4 bytes
-pub refused-is : (n k : ℕ) → 0 ∷ bytesOf 1 n ++ bytesOf 4 (k % 4294967296) ≡ refusedBytes n k
-unfolding refusedBytes
-refused-is n k = ap (λ (l : List ℕ). 0 ∷ bytesOf 1 n ++ l) (bytesOf-rest 4 k)
-
-pub front-is : (n k b : ℕ) (g : Float) → b ≡ toBits binary64 g → 1 ∷ bytesOf 4 n ++ bytesOf 4 k ++ bytesOf 8 b ≡ frontBytes n k g
-unfolding frontBytes
-front-is n k b g e = ap (λ (v : ℕ). 1 ∷ bytesOf 4 n ++ bytesOf 4 k ++ bytesOf 8 v) e
-
-pub front-length : (n k : ℕ) (g : Float) → 17 ≡ length (frontBytes n k g)
-unfolding frontBytes
-front-length n k g = refl
 
 -- by the length of the bytes that follow
 pub by-length : {m n : ℕ} (k : ℕ) (g : Float) (b e : List ℕ) → m ≡ n → frontBytes m k g ++ b ++ e ≡ frontBytes n k g ++ b ++ e
@@ -105,11 +83,6 @@ accepted-bytes {policy} {n} {k} {d = d} {g = g} {sheet = sheet} {out = out} {rep
     sym (by-buffers n k g out report out′ report′ _ (sym e ∙ CellOnce.values-once r _ (w .answer)) (w .output) (w .entries)) ∙ ap₂ (λ (m l : ℕ). cellBytes (writeCell policy d sheet m l)) p q
 
 -- ---- a library's answer
-
--- a library's refusal: cell and block of any size in 4 bytes each
-pub library-refused-is : (n i k : ℕ) → 0 ∷ bytesOf 1 n ++ bytesOf 4 (i % 4294967296) ++ bytesOf 4 (k % 4294967296) ≡ libraryRefusedBytes n i k
-unfolding libraryRefusedBytes
-library-refused-is n i k = ap₂ (λ (l m : List ℕ). 0 ∷ bytesOf 1 n ++ l ++ m) (bytesOf-rest 4 i) (bytesOf-rest 4 k)
 
 by-library : (x : L.Result LibraryFile) (r : Refusal) (i k : ℕ) → B.Refused r i k ≡ LA.answerOf x → libraryBytes x ≡ libraryRefusedBytes (number r) i k
 unfolding libraryBytes

@@ -1,11 +1,10 @@
--- The bytes of an answer, of the cell writer and of the library writer. Their layout stands in tools/pack_cases.py. Assumes nothing.
+-- The bytes of what the cell writer and the library writer answer. Assumes nothing.
 use mathlib.Core.Bool.{cond}
-use mathlib.Core.List.{List, _∷_, _++_}
+use mathlib.Core.List.{List, _++_}
 use Prim.Native.Nat.{ℕ}
 use lib.Dec.{eqb}
 use lib.ListN.{length}
-use lib.Ieee.{Float, binary64, toBits}
-use Rattle.big_endian.specs.Big.{bytesOf}
+use lib.Ieee.{Float}
 use Rattle.binary64.specs.Value.{zero64}
 use Rattle.refusal.specs.Number.{number}
 use Rattle.conversion.specs.Entry.{greatestFrom, reportBytes}
@@ -14,22 +13,11 @@ use Rattle.cell.specs.Cell as C
 use Rattle.cell.specs.Cell.{writeCell, structureBytes}
 use Rattle.library.specs.Library as L
 use Rattle.library.specs.Library.{LibraryFile, fileBytes, reportFrom, entriesIn, greatestIn, writeLibrary}
-
--- 0, the number in 1 byte, the block in 4
-unfoldable pub refusedBytes : ℕ → ℕ → List ℕ
-refusedBytes n block = 0 ∷ bytesOf 1 n ++ bytesOf 4 block
-
--- 1, the length of what is written and the entry count in 4 bytes each, the greatest error's bits
-unfoldable pub frontBytes : ℕ → ℕ → Float → List ℕ
-frontBytes size entries greatest = 1 ∷ bytesOf 4 size ++ bytesOf 4 entries ++ bytesOf 8 (toBits binary64 greatest)
+use Rattle.test_bytes.specs.Bytes.{refusedBytes, libraryRefusedBytes, frontBytes}
 
 unfoldable pub cellBytes : C.Result Structure → List ℕ
 cellBytes (C.stopped r k) = refusedBytes (number r) k
 cellBytes (C.written s es) = frontBytes (length (structureBytes s)) (length es) (greatestFrom zero64 es) ++ structureBytes s ++ reportBytes es
-
--- 0, the number in 1 byte, the cell and the block in 4 each
-unfoldable pub libraryRefusedBytes : ℕ → ℕ → ℕ → List ℕ
-libraryRefusedBytes n cell block = 0 ∷ bytesOf 1 n ++ bytesOf 4 cell ++ bytesOf 4 block
 
 unfoldable pub libraryBytes : L.Result LibraryFile → List ℕ
 libraryBytes (L.stopped r c k) = libraryRefusedBytes (number r) c k

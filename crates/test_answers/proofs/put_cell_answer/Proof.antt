@@ -6,7 +6,7 @@ use lib.ListN.{take, length-take}
 use lib.Seq.{length-take-le}
 use Rattle.big_endian.proofs.BufferLaws.{same-bytes}
 use Rattle.write_cell.proofs.RoomLaws.{writes-room}
-use Rattle.test_answers.specs.Answer.{refusedBytes}
+use Rattle.test_bytes.specs.Bytes.{refusedBytes}
 use Rattle.test_answers.proofs.AnswerLaws.{refused-bytes, accepted-bytes, by-length, zeros-length}
 use borrow.Author.Needs.{needs}
 use Rattle.test_answers.proofs.put_cell_answer.Statement.{statement}

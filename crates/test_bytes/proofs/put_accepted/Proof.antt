@@ -1,8 +1,8 @@
--- `test_answers::put_accepted` meets its contract: the front, the bytes, the entries. Assumes nothing.
+-- `test_bytes::put_accepted` meets its contract: the front, the bytes, the entries. Assumes nothing.
 use Rattle.big_endian.proofs.BufferLaws.{then-at}
 use borrow.Author.Needs.{needs}
-use Rattle.test_answers.proofs.put_accepted.Statement.{statement}
-use Rattle.test_answers.proofs.put_accepted.Tie as tie
+use Rattle.test_bytes.proofs.put_accepted.Statement.{statement}
+use Rattle.test_bytes.proofs.put_accepted.Tie as tie
 
 put-front-requires : tie.Need-put-front-requires
 put-front-requires c κs = search needs

@@ -1,9 +1,9 @@
--- `test_answers::put_refused` meets its contract. Assumes nothing.
+-- `test_bytes::put_refused` meets its contract. Assumes nothing.
 use Rattle.big_endian.proofs.BufferLaws.{then-at, same-bytes}
-use Rattle.test_answers.proofs.AnswerLaws.{refused-is}
+use Rattle.test_bytes.proofs.BytesLaws.{refused-is}
 use borrow.Author.Needs.{needs}
-use Rattle.test_answers.proofs.put_refused.Statement.{statement}
-use Rattle.test_answers.proofs.put_refused.Tie as tie
+use Rattle.test_bytes.proofs.put_refused.Statement.{statement}
+use Rattle.test_bytes.proofs.put_refused.Tie as tie
 
 put-u8-at-requires : tie.Need-put-u8-at-requires
 put-u8-at-requires c κs = search needs

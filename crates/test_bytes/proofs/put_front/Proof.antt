@@ -1,10 +1,10 @@
--- `test_answers::put_front` meets its contract. Assumes nothing.
+-- `test_bytes::put_front` meets its contract. Assumes nothing.
 use Rattle.big_endian.proofs.BufferLaws.{then-at, same-bytes}
-use Rattle.test_answers.proofs.AnswerLaws.{front-is, front-length}
+use Rattle.test_bytes.proofs.BytesLaws.{front-is, front-length}
 use Rattle.records.proofs.RecordLaws.{placed}
 use borrow.Author.Needs.{needs}
-use Rattle.test_answers.proofs.put_front.Statement.{statement}
-use Rattle.test_answers.proofs.put_front.Tie as tie
+use Rattle.test_bytes.proofs.put_front.Statement.{statement}
+use Rattle.test_bytes.proofs.put_front.Tie as tie
 
 put-u8-at-requires : tie.Need-put-u8-at-requires
 put-u8-at-requires c κs = search needs

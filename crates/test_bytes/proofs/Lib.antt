@@ -1,0 +1,2 @@
+-- The bytes of an answer, as they are put.
+pub mod BytesLaws
