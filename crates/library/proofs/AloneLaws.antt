@@ -1,11 +1,12 @@
--- A library's cells are those that each sheet alone gives (specs/Alone). Assumes nothing.
-use mathlib.Core.Path.{_≡_, ap, subst}
+-- A library's cells, and a refusal in one of them, are what each sheet alone gives (specs/Alone). Assumes nothing.
+use mathlib.Core.Path.{_≡_, refl, ap, _∙_, subst}
 use mathlib.Core.Option.{Option, none, some}
-use mathlib.Core.List.{List, [], _∷_}
+use mathlib.Core.List.{List, [], _∷_, _++_}
 use Prim.Native.Nat.{ℕ, suc, _-_, _≤_}
 use lib.Dec.{leb}
 use lib.ListN.{length}
 use lib.Ieee.{Float}
+use Rattle.refusal.specs.declared.Refusal.{Refusal}
 use Rattle.parsing.specs.All.{All, done, more}
 use Rattle.conversion.specs.declared.GdsRoundingPolicy.{GdsRoundingPolicy}
 use Rattle.conversion.specs.Made.{Made}
@@ -23,9 +24,12 @@ use Rattle.cell.specs.Draws.{Each}
 use Rattle.cell.specs.Draws as W
 use Rattle.cell.specs.Order.{Called}
 use Rattle.cell.proofs.CallLaws.{call-passed, Calling, unnamed, noUnit, tooLong, passes, calling}
-use Rattle.library.specs.Library.{Result, stopped, written, WrittenCell, writeOne, writeCells, LibraryFile, maxLibraryNameLength, fileWith, fileHeadOf, writeNamed, writeHeaded, writeLibrarySheet, afterCaller, libraryFile}
-use Rattle.library.specs.Alone.{Alone, CellsAlone}
-use Rattle.library.proofs.ResultLaws.{Whenever, check-whenever}
+use Rattle.library.specs.Library.{noCell, Result, stopped, written, WrittenCell, writeOne, writeCells, LibraryFile, maxLibraryNameLength, fileWith, fileHeadOf, writeNamed, writeHeaded, writeLibrarySheet, afterCaller, libraryFile}
+use Rattle.library.specs.Alone.{Alone, CellsAlone, RefusedCell, RefusedAlone}
+use Rattle.library.specs.Order.{First}
+use Rattle.library.specs.Order as O
+use Rattle.library.proofs.ResultLaws.{Whenever, check-whenever, Stops}
+use Rattle.library.proofs.OrderLaws.{measured-first}
 
 module _ (policy : ℕ) (d : Float) (sheet : List ℕ) (at : Called policy d sheet) where
   -- 1 to 3 pass for each cell sheet too
@@ -78,3 +82,28 @@ cells-alone policy d sheet l e = subst (Whenever (λ l. Each (Alone policy d) (c
     go m (noUnit rounding e never) = tt
     go m (tooLong rounding e u k) = tt
     go m (passes at) = sheet-alone policy d sheet at
+
+-- ---- refusals
+
+middle : {A : Type 0} {P : A → Type 0} (s : List A) (a : A) (t : List A) → All P (s ++ a ∷ t) → P a
+middle [] a t (more h hs) = h
+middle (b ∷ s) a t (more h hs) = middle s a t hs
+
+pub refused-alone : RefusedAlone
+refused-alone policy d sheet r c k e n = go r c k (subst (Stops (First policy d sheet 0 0)) e (measured-first policy d sheet 0 0)) n
+  where
+    go : (r : Refusal) (c k : ℕ) → First policy d sheet 0 0 r c k → (c ≡ noCell → ⊥) → RefusedCell policy d sheet r c k
+    go r c k (O.policyAbove3 e) n = absurd (n refl)
+    go r c k (O.unitNotPositive p e u) n = absurd (n refl)
+    go r c k (O.sheetTooLong p e u l) n = absurd (n refl)
+    go r c k (O.pairsIllFormed at p) n = absurd (n refl)
+    go r c k (O.headIllFormed at p e) n = absurd (n refl)
+    go r c k (O.headStamps at t) n = absurd (n refl)
+    go r c k (O.headUnits at t u) n = absurd (n refl)
+    go r c k (O.headName at t e l) n = absurd (n refl)
+    go r c k (O.cellRefused s i at x j e) n =
+        let called = at .headed .formed .called in
+        let short = middle (at .before) s (at .after) (subst (All (λ b. length b ≤ maxSheetLength)) (at .split) (blocks-within (pairCount sheet - 1) 1 maxSheetLength sheet (called .size))) in
+        record { before = at .before; cell = s; after = at .after; split = at .split; number = at .cell; alone = sheet-is policy d sheet called s short ∙ e }
+    go r c k (O.outputTooShort l e m) n = absurd (n refl)
+    go r c k (O.reportTooShort l e m i) n = absurd (n refl)

@@ -37,7 +37,7 @@ use Rattle.library.proofs.FileLaws.{Encoding, refusing, encoding, encod
 module _ (policy : ℕ) (d : Float) (sheet : List ℕ) (out report : ℕ) where
   -- ---- every refusal is the first
 
-  abbrev Firsts : {A : Type 0} → Result A → Type 0
+  abbrev pub Firsts : {A : Type 0} → Result A → Type 0
   Firsts = Stops (First policy d sheet out report)
 
   cells-first : (at : Headed policy d sheet) (before rest : List (List ℕ)) → cellSheets sheet ≡ before ++ rest → All (Accepted (at .formed .called .rounding) d) before
@@ -82,7 +82,7 @@ module _ (policy : ℕ) (d : Float) (sheet : List ℕ) (out report : ℕ) where
       check-stops _ (stampsFit (h .stamps)) R.Stamp _ (λ no. O.headStamps formed no)
       (λ t. named-first formed t (fileHeadOf d h) (encodes d h))
 
-  measured-first : Firsts (libraryFile policy d sheet)
+  pub measured-first : Firsts (libraryFile policy d sheet)
   unfolding libraryFile afterCaller writeLibrarySheet
   measured-first = go (checkedCall policy d sheet) (calling policy d sheet)
     where
