@@ -1,12 +1,12 @@
 -- "The drawing statement holds for each structure of an accepted file" (document 02, request 1). Assumes nothing.
 use mathlib.Core.Path.{_≡_}
 use mathlib.Core.Option.{some}
-use mathlib.Core.List.{List, [], _∷_, _++_}
+use mathlib.Core.List.{List, _++_}
 use Prim.Native.Nat.{ℕ}
 use lib.Dec.{T}
 use lib.ListN.{length, take}
 use lib.Ieee.{Float, binary64, fits}
-use Rattle.big_endian.specs.Big.{Bytes}
+use Rattle.big_endian.specs.Big.{Bytes, joined}
 use Rattle.sheet.specs.Blocks.{blockOf}
 use Rattle.sheet.specs.Library.{LibraryHead, libraryHeadOf, cellSheets}
 use Rattle.stream.specs.Library.{FileHead, fileHeadBytes, fileEndBytes}
@@ -17,8 +17,7 @@ use Rattle.library.specs.Answer.{answerOf}
 
 -- the parts in a row
 abbrev pub concat : List (List ℕ) → List ℕ
-concat [] = []
-concat (b ∷ bs) = b ++ concat bs
+concat bs = joined (λ b. b) bs
 
 -- The file is its own records, then one part for each cell sheet, in the order of the blocks, then ENDLIB, and nothing else. Each part, read alone, is a structure that draws its cell.
 pub record DrawsLibrary (policy : ℕ) (d : Float) (sheet file : List ℕ) : Type 0 where

@@ -1,7 +1,8 @@
 -- The statements about writing a library, written out once more with their figures; and that the writer's file of the sheet of specs/Files draws it. Assumes nothing.
-use mathlib.Core.Path.{_≡_, subst}
-use mathlib.Core.List.{List}
+use mathlib.Core.Path.{_≡_, refl, ap, ap₂, _∙_, subst}
+use mathlib.Core.List.{List, [], _∷_, _++_}
 use Prim.Native.Nat.{ℕ, _*_, _≤_, _<_}
+use native.Mathlib.Omega.{arith}
 use lib.Dec.{T}
 use lib.ListN.{length, take, getD}
 use lib.Ieee.{Float, binary64, fits}
@@ -9,13 +10,19 @@ use Rattle.refusal.specs.declared.Refusal.{Refusal}
 use Rattle.refusal.specs.declared.Refusal.the-variants as R
 use Rattle.library.specs.declared.LibraryAnswer.{LibraryAnswer}
 use Rattle.library.specs.declared.LibraryAnswer.the-variants.{Refused, Accepted}
-use Rattle.library.specs.Library.{stopped, libraryFile, writeLibrary, outAfter}
+use Rattle.sheet.specs.Library.{cellSheets}
+use Rattle.cell.specs.Cell as C
+use Rattle.cell.specs.Cell.{cellStructure}
+use Rattle.cell.specs.Draws.{Each}
+use Rattle.library.specs.Library as L
+use Rattle.library.specs.Library.{stopped, LibraryFile, libraryFile, writeLibrary, outAfter}
 use Rattle.library.specs.Answer.{answerOf}
 use Rattle.library.specs.Order.{First}
 use Rattle.library.specs.Draws.{DrawsLibrary}
 use Rattle.library.proofs.OrderLaws.{ordered}
 use Rattle.library.proofs.DrawsLaws.{written-draws}
 use Rattle.library.proofs.MeasureLaws.{writing-agrees}
+use Rattle.library.proofs.AloneLaws.{cells-alone, refused-alone}
 use Rattle.cases.specs.Case.{halved}
 use Rattle.cases.proofs.Open.{opened}
 use Rattle.guards.specs.Told.{allBytes}
@@ -45,6 +52,25 @@ module _ (policy : ℕ) (d : Float) (sheet : List ℕ) (out report : ℕ) (r : R
 
   pub first-answered : First policy d sheet out report r c k → writeLibrary policy d sheet out report ≡ stopped r c k
   first-answered = ordered policy d sheet out report .firstIs r c k
+
+-- ---- each cell, and a refusal in one, by its sheet alone
+
+pub written-alone : (policy : ℕ) (d : Float) (sheet : List ℕ) (l : LibraryFile) → libraryFile policy d sheet ≡ L.written l
+    → Each (λ s w. cellStructure policy d s ≡ C.written (w .structure) (w .entries)) (cellSheets sheet) (l .cells)
+written-alone = cells-alone
+
+there : (s : List (List ℕ)) (a : List ℕ) (t : List (List ℕ)) → getD (s ++ a ∷ t) (length s) [] ≡ a
+there [] a t = refl
+there (b ∷ s) a t = there s a t
+
+pub refused-by-itself : (policy : ℕ) (d : Float) (sheet : List ℕ) (r : Refusal) (c k : ℕ) → libraryFile policy d sheet ≡ stopped r c k → c < 16384
+    → cellStructure policy d (getD (cellSheets sheet) c []) ≡ C.stopped r k
+refused-by-itself policy d sheet r c k e l =
+    let h = refused-alone policy d sheet r c k e (outside c l) in
+    ap (cellStructure policy d) (ap₂ (λ (ss : List (List ℕ)) (i : ℕ). getD ss i []) (h .split) (h .number) ∙ there (h .before) (h .cell) (h .after)) ∙ h .alone
+  where
+    outside : (c : ℕ) → c < 16384 → c ≡ 4294967295 → ⊥
+    outside c l e = omega arith
 
 -- ---- measuring and writing agree: "21 and 22 come once, at the end"
 
