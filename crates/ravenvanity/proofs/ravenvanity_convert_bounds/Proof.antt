@@ -1,11 +1,11 @@
--- `exports::ravenvanity_convert_bounds` meets its contract. Assumes nothing.
+-- `ravenvanity::ravenvanity_convert_bounds` meets its contract. Assumes nothing.
 use borrow.Author.Needs.{needs}
 use mir.Val.{SFits}
 use mir.Syntax.{w32}
 use mir.ValLaws.{toZ-ofZ}
-use Rattle.exports.proofs.ExportLaws.{bounds-refused, bounds-range}
-use Rattle.exports.proofs.ravenvanity_convert_bounds.Statement.{statement}
-use Rattle.exports.proofs.ravenvanity_convert_bounds.Tie as tie
+use Rattle.ravenvanity.proofs.ExportLaws.{bounds-refused, bounds-range}
+use Rattle.ravenvanity.proofs.ravenvanity_convert_bounds.Statement.{statement}
+use Rattle.ravenvanity.proofs.ravenvanity_convert_bounds.Tie as tie
 
 convert-bounds-requires : tie.Need-convert-bounds-requires
 convert-bounds-requires c κs = search needs

@@ -1,8 +1,8 @@
--- `exports::ravenvanity_write_cell` meets its contract. Assumes nothing.
+-- `ravenvanity::ravenvanity_write_cell` meets its contract. Assumes nothing.
 use borrow.Author.Needs.{needs}
-use Rattle.exports.proofs.ExportLaws.{writes-in}
-use Rattle.exports.proofs.ravenvanity_write_cell.Statement.{statement}
-use Rattle.exports.proofs.ravenvanity_write_cell.Tie as tie
+use Rattle.ravenvanity.proofs.ExportLaws.{writes-in}
+use Rattle.ravenvanity.proofs.ravenvanity_write_cell.Statement.{statement}
+use Rattle.ravenvanity.proofs.ravenvanity_write_cell.Tie as tie
 
 write-cell-requires : tie.Need-write-cell-requires
 write-cell-requires c κs = search needs

@@ -1,8 +1,8 @@
--- `exports::ravenvanity_write_library` meets its contract. Assumes nothing.
+-- `ravenvanity::ravenvanity_write_library` meets its contract. Assumes nothing.
 use borrow.Author.Needs.{needs}
-use Rattle.exports.proofs.ExportLaws.{library-writes-in}
-use Rattle.exports.proofs.ravenvanity_write_library.Statement.{statement}
-use Rattle.exports.proofs.ravenvanity_write_library.Tie as tie
+use Rattle.ravenvanity.proofs.ExportLaws.{library-writes-in}
+use Rattle.ravenvanity.proofs.ravenvanity_write_library.Statement.{statement}
+use Rattle.ravenvanity.proofs.ravenvanity_write_library.Tie as tie
 
 write-library-requires : tie.Need-write-library-requires
 write-library-requires c κs = search needs

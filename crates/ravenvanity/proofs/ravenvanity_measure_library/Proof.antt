@@ -1,8 +1,8 @@
--- `exports::ravenvanity_measure_library` meets its contract. Assumes nothing.
+-- `ravenvanity::ravenvanity_measure_library` meets its contract. Assumes nothing.
 use borrow.Author.Needs.{needs}
-use Rattle.exports.proofs.ExportLaws.{library-measures-in}
-use Rattle.exports.proofs.ravenvanity_measure_library.Statement.{statement}
-use Rattle.exports.proofs.ravenvanity_measure_library.Tie as tie
+use Rattle.ravenvanity.proofs.ExportLaws.{library-measures-in}
+use Rattle.ravenvanity.proofs.ravenvanity_measure_library.Statement.{statement}
+use Rattle.ravenvanity.proofs.ravenvanity_measure_library.Tie as tie
 
 measure-library-requires : tie.Need-measure-library-requires
 measure-library-requires c κs = search needs

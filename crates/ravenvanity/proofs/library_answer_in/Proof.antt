@@ -1,8 +1,8 @@
--- `exports::library_answer_in` meets its contract. Assumes nothing.
+-- `ravenvanity::library_answer_in` meets its contract. Assumes nothing.
 use borrow.Author.Needs.{needs}
-use Rattle.exports.proofs.ExportLaws.{library-refused-in, library-accepted-in}
-use Rattle.exports.proofs.library_answer_in.Statement.{statement}
-use Rattle.exports.proofs.library_answer_in.Tie as tie
+use Rattle.ravenvanity.proofs.ExportLaws.{library-refused-in, library-accepted-in}
+use Rattle.ravenvanity.proofs.library_answer_in.Statement.{statement}
+use Rattle.ravenvanity.proofs.library_answer_in.Tie as tie
 
 enum-known-a : tie.Need-enum-known-a
 enum-known-a c = search needs

@@ -1,8 +1,8 @@
--- `exports::ravenvanity_survey_pitch` meets its contract. Assumes nothing.
+-- `ravenvanity::ravenvanity_survey_pitch` meets its contract. Assumes nothing.
 use borrow.Author.Needs.{needs}
-use Rattle.exports.proofs.ExportLaws.{survey-refused, survey-counts}
-use Rattle.exports.proofs.ravenvanity_survey_pitch.Statement.{statement}
-use Rattle.exports.proofs.ravenvanity_survey_pitch.Tie as tie
+use Rattle.ravenvanity.proofs.ExportLaws.{survey-refused, survey-counts}
+use Rattle.ravenvanity.proofs.ravenvanity_survey_pitch.Statement.{statement}
+use Rattle.ravenvanity.proofs.ravenvanity_survey_pitch.Tie as tie
 
 survey-pitch-requires : tie.Need-survey-pitch-requires
 survey-pitch-requires c κs = search needs

@@ -1,8 +1,8 @@
--- `exports::ravenvanity_measure_cell` meets its contract. Assumes nothing.
+-- `ravenvanity::ravenvanity_measure_cell` meets its contract. Assumes nothing.
 use borrow.Author.Needs.{needs}
-use Rattle.exports.proofs.ExportLaws.{measures-in}
-use Rattle.exports.proofs.ravenvanity_measure_cell.Statement.{statement}
-use Rattle.exports.proofs.ravenvanity_measure_cell.Tie as tie
+use Rattle.ravenvanity.proofs.ExportLaws.{measures-in}
+use Rattle.ravenvanity.proofs.ravenvanity_measure_cell.Statement.{statement}
+use Rattle.ravenvanity.proofs.ravenvanity_measure_cell.Tie as tie
 
 measure-cell-requires : tie.Need-measure-cell-requires
 measure-cell-requires c κs = search needs
