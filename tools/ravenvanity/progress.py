@@ -1,0 +1,23 @@
+"""How far the work is, said on standard error from its second second on."""
+import sys
+import time
+
+shown = False  # the command turns it on; other tools stay quiet
+started = time.monotonic()
+due = started + 1
+
+
+def tick(what, done, total):
+    """So much is done of the whole."""
+    global due
+    now = time.monotonic()
+    if shown and now >= due:
+        due = now + 1
+        print(f"ravenvanity: {what}, {100 * done // max(total, 1)} %, {now - started:.0f} s", file=sys.stderr, flush=True)
+
+
+def track(steps, total, what):
+    """Each step in turn; `total` of them make the whole."""
+    for done, step in enumerate(steps):
+        tick(what, done, total)
+        yield step

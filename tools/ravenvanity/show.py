@@ -1,0 +1,327 @@
+"""A GDSII structure or library file, and report entries, as readable text.
+
+A structure is read by the grammar of document 01 ("What a structure draws"); a library file is HEADER, BGNLIB, LIBNAME,
+UNITS, structures, ENDLIB. Each record gets a line: the byte where it starts, its name, and what it holds. Eight-byte
+reals are written as exact decimals, long ones of UNITS as the shortest decimal of the double. Zero bytes after ENDLIB are
+no damage: a line says how many. The lines that the program `structure` prints, and a stored library's, are read too.
+"""
+import re
+import struct
+from fractions import Fraction
+
+from . import progress
+from .cell_text import quoted
+from .inputs import Unreadable, raw, unhexed
+
+# code: name, data type, size of the data (None: any even number; -8: any multiple of 8)
+RECORDS = {
+    0x05: ("BGNSTR", 2, 24), 0x06: ("STRNAME", 6, None), 0x07: ("ENDSTR", 0, 0), 0x08: ("BOUNDARY", 0, 0), 0x09: ("PATH", 0, 0),
+    0x0a: ("SREF", 0, 0), 0x0b: ("AREF", 0, 0), 0x0c: ("TEXT", 0, 0), 0x0d: ("LAYER", 2, 2), 0x0e: ("DATATYPE", 2, 2),
+    0x0f: ("WIDTH", 3, 4), 0x10: ("XY", 3, -8), 0x11: ("ENDEL", 0, 0), 0x12: ("SNAME", 6, None), 0x13: ("COLROW", 2, 4),
+    0x15: ("NODE", 0, 0), 0x16: ("TEXTTYPE", 2, 2), 0x17: ("PRESENTATION", 1, 2), 0x19: ("STRING", 6, None), 0x1a: ("STRANS", 1, 2),
+    0x1b: ("MAG", 5, 8), 0x1c: ("ANGLE", 5, 8), 0x21: ("PATHTYPE", 2, 2), 0x2a: ("NODETYPE", 2, 2), 0x2b: ("PROPATTR", 2, 2),
+    0x2c: ("PROPVALUE", 6, None), 0x30: ("BGNEXTN", 3, 4), 0x31: ("ENDEXTN", 3, 4),
+}
+# those that stand in a library file beside its structures'
+LIBRARY_RECORDS = {0x00: ("HEADER", 2, 2), 0x01: ("BGNLIB", 2, 24), 0x02: ("LIBNAME", 6, None), 0x03: ("UNITS", 5, 16), 0x04: ("ENDLIB", 0, 0)}
+HEADER = 0x00
+TRANSFORM = ["STRANS?", "MAG?", "ANGLE?"]
+# the records of each element, `?` where one may be missing; properties and ENDEL follow
+ELEMENTS = {
+    "BOUNDARY": ["LAYER", "DATATYPE", "XY"],
+    "NODE": ["LAYER", "NODETYPE", "XY"],
+    "PATH": ["LAYER", "DATATYPE", "PATHTYPE?", "WIDTH?", "BGNEXTN?", "ENDEXTN?", "XY"],
+    "TEXT": ["LAYER", "TEXTTYPE", "PRESENTATION?", *TRANSFORM, "XY", "STRING"],
+    "SREF": ["SNAME", *TRANSFORM, "XY"],
+    "AREF": ["SNAME", *TRANSFORM, "COLROW", "XY"],
+}
+POINTS = {"TEXT": 1, "SREF": 1, "AREF": 3}
+KINDS = {1: "polygon", 2: "path", 3: "text", 4: "node", 5: "reference"}
+FIELDS = ("point", "width", "begin extension", "end extension", "origin", "turned column spacing", "turned row spacing",
+          "column endpoint", "row endpoint")
+AXES = ("x", "y", "")
+ENTRY, LIBRARY_ENTRY = 33, 37
+
+
+class Damage(Unreadable):
+    """A stream is not of the grammar, and at which byte."""
+
+
+# ---- numbers
+
+
+def decimal(x):
+    """A fraction whose denominator is a power of 2, as an exact decimal."""
+    if x < 0:
+        return "-" + decimal(-x)
+    places = x.denominator.bit_length() - 1
+    digits = str(x.numerator * 5**places).rjust(places + 1, "0")
+    return digits if places == 0 else f"{digits[:-places]}.{digits[-places:]}"
+
+
+def real8(data):
+    """What an eight-byte real is worth."""
+    size = Fraction(int.from_bytes(data[1:], "big"), 2**56) * Fraction(16) ** ((data[0] & 127) - 64)
+    return -size if data[0] & 128 else size
+
+
+def unit(data):
+    """A real of UNITS, whose exact decimal may have hundreds of digits."""
+    worth = real8(data)
+    exact, short = decimal(worth), float(worth)
+    return exact if len(exact) < 20 else f"{'' if Fraction(short) == worth else 'nearly '}{short!r}"
+
+
+def longs(data):
+    return struct.unpack(f">{len(data) // 4}i", data)
+
+
+def points(data):
+    values = longs(data)
+    return list(zip(values[::2], values[1::2]))
+
+
+# ---- one record in words
+
+
+def many(count, what):
+    return f"{count} {what}" if count == 1 else f"{count} {what}s"
+
+
+def stamp(data):
+    first, second = struct.unpack(">6H", data[:12]), struct.unpack(">6H", data[12:])
+    if not any(first + second):
+        return "zero stamps"
+    return ", ".join("{:04d}-{:02d}-{:02d} {:02d}:{:02d}:{:02d}".format(*s) for s in (first, second))
+
+
+def presentation(data):
+    value = int.from_bytes(data, "big")
+    return f"{value} (vertical {value >> 2 & 3}, horizontal {value & 3})"
+
+
+def words_of(name, data):
+    if name in ("BGNSTR", "BGNLIB"):
+        return stamp(data)
+    if name == "UNITS":
+        return f"{unit(data[:8])} (user unit), {unit(data[8:])} (database unit)"
+    if name == "XY":
+        return " ".join(f"({x}, {y})" for x, y in points(data))
+    if name == "COLROW":
+        columns, rows = struct.unpack(">HH", data)
+        return f"{many(columns, 'column')}, {many(rows, 'row')}"
+    if name == "PRESENTATION":
+        return presentation(data)
+    if name == "STRANS":
+        return {0x8000: "reflected", 0: "not reflected"}.get(int.from_bytes(data, "big"), f"0x{data.hex()}")
+    if name in ("MAG", "ANGLE"):
+        return decimal(real8(data))
+    if name in ("LIBNAME", "STRNAME", "SNAME", "STRING", "PROPVALUE"):
+        return quoted(data)
+    if name in ("WIDTH", "BGNEXTN", "ENDEXTN"):
+        return str(longs(data)[0])
+    return str(int.from_bytes(data, "big")) if data else ""
+
+
+# ---- records and the grammar
+
+
+def sized(data, size):
+    return len(data) % 8 == 0 if size == -8 else size is None or len(data) == size
+
+
+def next_record(stream, at, records=RECORDS):
+    """(name, data) of the record at a byte, one of `records`."""
+    left = len(stream) - at
+    if left < 4:
+        raise Damage(f"byte {at}: a record's head has 4 bytes, {left} are left")
+    length, code, kind = struct.unpack_from(">HBB", stream, at)
+    if length < 4 or length % 2:
+        raise Damage(f"byte {at}: a record's length is even and at least 4, not {length}")
+    if code not in records:
+        raise Damage(f"byte {at + 2}: record code 0x{code:02x} is none of a {'structure' if records is RECORDS else 'library'}'s")
+    name, data_type, size = records[code]
+    if kind != data_type:
+        raise Damage(f"byte {at + 3}: {name} has data type {data_type}, not {kind}")
+    if length > left:
+        raise Damage(f"byte {at}: {name} has a length of {length} bytes, {left} are left")
+    data = stream[at + 4:at + length]
+    if not sized(data, size):
+        wants = "a multiple of 8" if size == -8 else size
+        raise Damage(f"byte {at + 4}: {name} has {wants} bytes of data, not {len(data)}")
+    return name, data
+
+
+def is_library(stream):
+    """Whether a stream's first record is to be a HEADER."""
+    return stream[2:3] == bytes([HEADER])
+
+
+class Walk:
+    """The records of a stream in turn; each that is taken gets a line. `structures` has each one's name and elements."""
+
+    def __init__(self, stream, say):
+        self.stream, self.at, self.last, self.say = stream, 0, 0, say
+        self.records, self.depth, self.structures = RECORDS, 0, []
+
+    def peek(self):
+        return next_record(self.stream, self.at, self.records)
+
+    def take(self, *expected, indent=2):
+        name, data = self.peek()
+        if name not in expected:
+            raise Damage(f"byte {self.at}: {name} stands where {' or '.join(expected)} belongs")
+        progress.tick("reading the stream", self.at, len(self.stream))
+        self.say(f"{self.at:6}{' ' * indent}{name:<{18 + self.depth - indent}}{words_of(name, data)}".rstrip())
+        self.last, self.at = self.at, self.at + 4 + len(data)
+        return name, data
+
+    def whole(self):
+        """A library file where it starts with a HEADER, else one structure."""
+        if is_library(self.stream):
+            self.file()
+            return
+        self.take("BGNSTR")
+        self.structure()
+        if self.at != len(self.stream):
+            raise Damage(f"byte {self.at}: {len(self.stream) - self.at} bytes follow ENDSTR")
+
+    def file(self):
+        self.records, self.depth = {**RECORDS, **LIBRARY_RECORDS}, 2
+        for name in ("HEADER", "BGNLIB", "LIBNAME", "UNITS"):
+            self.take(name)
+        while self.take("BGNSTR", "ENDLIB", indent=4 if self.peek()[0] == "BGNSTR" else 2)[0] == "BGNSTR":
+            self.structure()
+        rest = self.stream[self.at:]
+        if any(rest):
+            raise Damage(f"byte {self.at}: {len(rest)} bytes follow ENDLIB, not all zero")
+        if rest:
+            self.say(f"{self.at:6}  {many(len(rest), 'zero byte')} after ENDLIB: padding, as to the end of a tape block, and no part of the library")
+
+    def structure(self):
+        """From its STRNAME on."""
+        elements = []
+        self.structures.append((self.take("STRNAME", indent=2 + self.depth)[1].rstrip(b"\0"), elements))
+        name, _ = self.take(*ELEMENTS, "ENDSTR", indent=2 + self.depth)
+        while name != "ENDSTR":
+            elements.append((name, self.element(name)))
+            name, _ = self.take(*ELEMENTS, "ENDSTR", indent=2 + self.depth)
+
+    def element(self, kind):
+        """The data of each of its records, up to its properties."""
+        found = {}
+        for name in ELEMENTS[kind]:
+            wanted = name.rstrip("?")
+            if wanted != name and (self.peek()[0] != wanted or wanted in ("MAG", "ANGLE") and "STRANS" not in found):
+                continue
+            found[wanted] = self.take(wanted, indent=4 + self.depth)[1]
+            self.check(kind, wanted, found)
+        while self.take("PROPATTR", "ENDEL", indent=4 + self.depth)[0] == "PROPATTR":
+            self.take("PROPVALUE", indent=4 + self.depth)
+        return found
+
+    def check(self, kind, name, found):
+        data = found[name]
+        if name == "STRANS" and data not in (b"\x80\0", b"\0\0"):
+            raise Damage(f"byte {self.last + 4}: STRANS is 0x8000 or 0, not 0x{data.hex()}")
+        if name == "COLROW" and 0 in struct.unpack(">HH", data):
+            raise Damage(f"byte {self.last + 4}: an array has 1 or more columns and rows")
+        if name == "XY" and len(data) // 8 != POINTS.get(kind, len(data) // 8):
+            raise Damage(f"byte {self.last + 4}: XY of {kind} has {POINTS[kind]} points, not {len(data) // 8}")
+        if name == "XY" and kind == "AREF":
+            self.steps(points(data), struct.unpack(">HH", found["COLROW"]))
+
+    def steps(self, corners, counts):
+        steps = []
+        for corner, count, what in zip(corners[1:], counts, ("column", "row")):
+            difference = [corner[k] - corners[0][k] for k in (0, 1)]
+            if difference[0] % count or difference[1] % count:
+                raise Damage(f"byte {self.last + 4}: the {what} step {tuple(difference)} / {count} is not whole")
+            steps.append(f"{what} step ({difference[0] // count}, {difference[1] // count})")
+        self.say(" " * (24 + self.depth) + ", ".join(steps))
+
+
+# ---- report entries
+
+
+def entry_words(data, at=0):
+    index, kind, field, axis, place, count, p, q, error = struct.unpack(">IBBBHIdid", data)
+    if kind not in KINDS or field >= len(FIELDS) or axis >= len(AXES):
+        where, what, value = ((4, "element kind", kind) if kind not in KINDS else
+                              (5, "field", field) if field >= len(FIELDS) else (6, "axis", axis))
+        raise Damage(f"byte {at + where}: report entry: {what} {value} is unknown")
+    spot = f"point {place} {AXES[axis]}" if field == 0 else f"{FIELDS[field]} {AXES[axis]}".rstrip()
+    return f"element {index} ({KINDS[kind]}): {many(count, 'value')} affected, worst {spot}: p {p!r}, q {q}, error {error!r}"
+
+
+def library_entry_words(data, names, at=0):
+    cell = int.from_bytes(data[:4], "big")
+    if cell >= len(names):
+        raise Damage(f"byte {at}: report entry: cell {cell}, and the library has {many(len(names), 'cell')}")
+    return f"cell {cell} ({quoted(names[cell])}), {entry_words(data[4:], at + 4)}"
+
+
+def entries(data, say, names=None):
+    """Entries of a cell; of a library, where its cells' names are given."""
+    size = ENTRY if names is None else LIBRARY_ENTRY
+    for at in range(0, len(data), size):
+        if len(data) - at < size:
+            raise Damage(f"byte {at}: a report entry has {size} bytes, {len(data) - at} are left")
+        one = data[at:at + size]
+        say(entry_words(one, at) if names is None else library_entry_words(one, names, at))
+
+
+# ---- input
+
+
+def accepted(lines, say):
+    _, length, count, error = lines[0].split(" ")
+    stream = unhexed(lines[1], "line 2")
+    rest = [unhexed(line, f"line {k}") for k, line in enumerate(lines[2:], 3)]
+    if str(len(stream)) != length or str(len(rest)) != count:
+        raise Damage(f"line 1 says {length} bytes and {count} entries; there are {len(stream)} and {len(rest)}")
+    greatest = struct.unpack(">d", unhexed(error, "line 1"))[0]
+    say(f"accepted: {many(len(stream), 'byte')}, {many(len(rest), 'report entry').replace('entrys', 'entries')}, greatest error {greatest!r}")
+    walk = Walk(stream, say)
+    walk.whole()
+    names = [name for name, _ in walk.structures] if is_library(stream) else None
+    size = ENTRY if names is None else LIBRARY_ENTRY
+    for k, entry in enumerate(rest, 3):
+        if len(entry) != size:
+            raise Damage(f"line {k}: a report entry has {size} bytes, not {len(entry)}")
+        entries(entry, say, names)
+
+
+NO_ANSWER = {"short": "no answer: under 9 bytes of input", "long": "no answer: over 24,576 bytes of sheet"}
+
+
+def program_lines(lines, say):
+    """The lines of the program, or of a stored library: `ok`, the stream, the entries; or a refusal."""
+    first = lines[0]
+    if first in NO_ANSWER:
+        say(NO_ANSWER[first])
+    elif re.fullmatch(r"no \d+ \d+", first):
+        say("refused: number {1}, block {2} (`ravenvanity refusal {1} {2}` says what that means)".format(*first.split(" ")))
+    elif re.fullmatch(r"no \d+ \d+ \d+", first):
+        say("refused: number {1}, cell {2}, block {3} (`ravenvanity refusal {1} {2} {3}` says what that means)".format(*first.split(" ")))
+    elif re.fullmatch(r"ok \d+ \d+ [0-9a-f]{16}", first) and len(lines) > 1:
+        accepted(lines, say)
+    else:
+        raise Damage(f"line 1: `ok` with length, entries and error bits, then a stream, or `no` with number and block, not `{first[:60]}`")
+
+
+def explain(data, report, say):
+    if report:
+        entries(raw(data), say)
+    elif data[:3] in (b"ok ", b"no ") or data.strip() in (b"short", b"long"):
+        program_lines(data.decode("ascii", "replace").rstrip("\n").split("\n"), say)
+    else:
+        Walk(raw(data), say).whole()
+
+
+def with_report(data, report, say):
+    """A structure or a library file, then its report in words."""
+    stream = raw(data)
+    walk = Walk(stream, say)
+    walk.whole()
+    entries(raw(report), say, [name for name, _ in walk.structures] if is_library(stream) else None)
