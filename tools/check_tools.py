@@ -3,33 +3,32 @@
 
     check_tools.py CASES [CASES ...]
 
-For each case of the files (their form stands in tools/pack_cases.py): a sheet whose form is sound goes to text and back,
-and must come out as it went in; an expected stream and its entries are read by stream_to_text.py, which must not
-complain, and drawn by stream_to_svg.py; a refusal has its words; the answer must be the model's, and of a library the
-proved library's too, also through library.py, where the static library is built. Then faulty texts and damaged streams
-must get their message and nothing else, and so must wrong uses of bounds.py, survey.py and library.py; the first two
-must give the answers of tools/bounds_cases.txt and tools/survey_cases.txt, with the model's own picture of each row.
-The last line counts; the exit status is 0 if nothing was wrong.
+For each case of the files (tools/case_files.py): a sheet whose form is sound goes to text and back, and must come out as
+it went in; an expected stream and its entries are read record by record without complaint, and drawn; cut short or
+lengthened, it must be turned back with the byte; a refusal has its words; the answer must be the model's, and where the
+static library is built the proved library's, which is also asked for the bounds and surveys of tools/bounds_cases.txt and
+tools/survey_cases.txt. Then, whatever the files: faulty texts and faulty lines of cases get their message and nothing
+else; faulty calls of each tool too, and a full disk and a closed pipe end it (tools/tool_calls.py); what is stored in
+crates/test_vectors, crates/test_conversions and crates/cases is what the tools make; and refusals have the same numbers
+and words in crates/refusal, in the command and in exports/.
+
+The last line counts. Exit status: 0 where nothing is wrong, 1 where something is or a file cannot be read, 2 where it was
+called wrongly.
 """
 import os
-import struct
-import sys
+import re
 import xml.etree.ElementTree
 
-import arguments
-import bounds
-import cell_text
+import called
+import case_files
+import computed_cases
 import conversions
-import exported
-import library
-import library_text
 import model
 import pack_cases
-import refusal
-import sheet as form
-import stream_to_svg
-import stream_to_text
-import survey
+import tool_calls
+from case_files import CELL, LIBRARY
+from ravenvanity import cell_text, draw, files, library_text, proved, refusal, show
+from ravenvanity import sheet as form
 
 BAD_TEXTS = (
     ("", 1, "no `cell` line"), ("# only\n# comments", 2, "no `cell` line"), ("polygon 1 2", 1, "first line is `cell`"),
@@ -46,7 +45,8 @@ BAD_TEXTS = (
     ('cell "A"\ntext 1 2\n', 2, "takes 3"), ('cell "A"\n\ntext 1 2 "T"\n vertical 1', 3, "no `at` line"),
     ('cell "A"\nreference "B" 2', 2, "takes 1 or 3"), ('cell "A"\nreference "B" 4294967296 1', 2, "4294967295"),
     ('cell "A"\nreference "B"\n at 1@1 1@1\n column absent 1@1', 4, "VALUE@UNIT"), ('cell "A"\nnode 1 2\n property 1 x', 3, "string"),
-    ('cell "A"\n' + "node 1 2\n" * 16384, 16385, "16,383 elements"),
+    ('cell "A"\nreference "B" 2 1\n at 1@1 1@1\n degrees 45', 2, "give it the lines"), ('cell "A"\nreference "B" 1 2\n at 1@1 1@1\n degrees nan', 2, "not finite"),
+    ('cell "A"\nreference "B" 2 1\n at 1@1 1@1\n sine 1', 2, "stand together"), ('cell "A"\n' + "node 1 2\n" * 16384, 16385, "16,383 elements"),
 )
 
 BAD_LIBRARIES = (
@@ -59,73 +59,78 @@ BAD_LIBRARIES = (
     ('library "A"\nuser_unit 1\ncell "B"\nstamps zero\nstamps zero', 5, "once"), ('library "A"\nuser_unit 1\ncell "B"\n point 1@1 1@1', 4, "before the first element"),
     ('library "A"\nuser_unit 1\ncell "B"\ntext 1 2 "T"\ncell "C"', 4, "no `at` line"), ('library "A"\nuser_unit 1\n' + 'cell "B"\n' * 16384, 16386, "16,383 cells"),
 )
-BAD_BOUNDS = (
-    ("", "0 are given"), ("0 --unit 1 --policy 0", "1 is given"), ("0 0 0 --unit 1 --policy 0", "3 are given"), ("0 0 --policy 0", "--unit"),
-    ("0 0 --unit 1", "--policy"), ("0 0 --unit", "after --unit"), ("0 0 --unit 1 --unit 1 --policy 0", "twice"), ("0 0 --foo", "--foo"),
-    ("0 0 --unit 1 --policy foo", "not foo"), ("0 0 --unit 1 --policy 256", "255"), ("0 0 --unit 1 --policy " + "9" * 5000, "255"), ("0 0 --unit 1 --policy -1", "not -1"),
-    ("x 0 --unit 1 --policy 0", "the lower end"), ("0 1e999 --unit 1 --policy 0", "beyond the doubles"), ("0 0 --unit 0x12 --policy 0", "the database unit"),
+BAD_CASES = (
+    ("a", "a case is a name"), ("a -", "a case is a name"), ("a library 00", "a case is a name"), ("a 0 short", "not in hex"), ("a 0g short", "not in hex"),
+    ("a 00 ok", "no answer to an input of 1 bytes"), ("a - long", "no answer to an input of 0 bytes"), ("a 00 short|00", "no answer"), (f"a {'00' * 9} short", "`short` is no answer"),
+    (f"a {'00' * 9} yes", "starts with `ok` or `no`"), (f"a {'00' * 9} ok 1 0 0", "`ok` wants"), (f"a {'00' * 9} ok 1 0 {'0' * 16}", "`ok` wants"),
+    (f"a {'00' * 9} ok 1 0 {'0' * 16}|0000", "not as many"), (f"a {'00' * 9} ok 1 0 {'0' * 16}|x0", "not in hex"), (f"a {'00' * 9} ok 1 1 {'0' * 16}|00|00", "has 33 bytes"),
+    (f"a library {'00' * 9} ok 1 1 {'0' * 16}|00|{'00' * 33}", "has 37 bytes"), (f"a {'00' * 9} no 1", "`no` of a cell"), (f"a {'00' * 9} no 1 0 0", "`no` of a cell"),
+    (f"a library {'00' * 9} no 1 0", "`no` of a library"), (f"a {'00' * 9} no 256 0", "8 bits"), (f"a {'00' * 9} no 1 4294967296", "a place 32"), (f"a {'00' * 9} no 1 0|00", "no further line"),
 )
-BAD_SURVEYS = (
-    ("", "0 are given"), ("1 --unit 1 --policy 0", "1 is given"), ("1 1 1 --unit 1 --policy 0", "3 are given"), ("1 1 --policy 0", "--unit"), ("1 1 --unit 1", "--policy"),
-    ("1 1 --foo", "--foo"), ("1 1 --unit 1 --policy foo", "not foo"), ("x 1 --unit 1 --policy 0", "the pitch"), ("1e999 1 --unit 1 --policy 0", "beyond the doubles"),
-    ("1 1.5 --unit 1 --policy 0", "not 1.5"), ("1 -1 --unit 1 --policy 0", "not -1"), ("1 4294967296 --unit 1 --policy 0", "4294967295"), ("1 " + "9" * 5000 + " --unit 1 --policy 0", "..."),
-    ("1 x --unit 1 --policy 0", "the number of places"),
-)
-BAD_CALLS = (("x 1", "not x"), ("256 1", "255"), ("-1 1", "not -1"), ("0 x", "the database unit"), ("0 1e999", "beyond the doubles"), ("0 0x12", "the database unit"))
-HERE = os.path.dirname(os.path.abspath(__file__))
+ROOT = os.path.dirname(os.path.dirname(os.path.abspath(__file__)))
+BUFFERS = {CELL: (model.OUTPUT, model.REPORT), LIBRARY: (model.LIBRARY_OUTPUT, model.LIBRARY_REPORT)}
 
 
 class Count:
     def __init__(self):
-        self.cases = self.there_and_back = self.ill = self.streams = self.entries = self.drawn = self.damaged = self.asked = self.written = self.wrong = 0
+        self.cases = self.there_and_back = self.ill = self.streams = self.entries = self.drawn = self.damaged = 0
+        self.asked = self.written = self.calls = self.made = self.refusals = self.wrong = 0
 
     def fail(self, what):
         self.wrong += 1
         print(what)
 
+    def line(self):
+        texts = len(BAD_TEXTS) + len(BAD_LIBRARIES)
+        return (f"{self.cases} cases: {self.there_and_back} sheets there and back, {self.ill} ill-formed; {self.streams} streams and {self.entries} entries read, "
+                f"{self.drawn} drawn, {self.damaged} damaged; {self.written} written by the proved library; {self.asked} bounds and surveys; {texts} faulty texts, "
+                f"{len(BAD_CASES)} faulty cases, {self.calls} faulty calls; {self.made} stored files, {self.refusals} refusals; {self.wrong} wrong")
+
+
+# ---- a case
+
 
 # of a cell and of a library: a sheet read, its lines, a text read, its sheet
 FORMS = {
-    model.CELL: (form.read_sheet, cell_text.cell_lines, cell_text.read_cell, form.sheet_bytes),
-    model.LIBRARY: (form.read_library, library_text.library_lines, library_text.read_library, form.library_bytes),
+    CELL: (form.read_sheet, cell_text.cell_lines, cell_text.read_cell, form.sheet_bytes),
+    LIBRARY: (form.read_library, library_text.library_lines, library_text.read_library, form.library_bytes),
 }
 
 
-def there_and_back(name, job, sheet, count):
-    read_sheet, lines_of, read_text, bytes_of = FORMS[job]
+def there_and_back(case, sheet, count):
+    read_sheet, lines_of, read_text, bytes_of = FORMS[case.job]
     try:
         found = read_sheet(sheet)
     except form.Ill as ill:
         count.ill += 1
         if not str(ill).startswith("byte "):
-            count.fail(f"{name}: no byte named: {ill}")
+            count.fail(f"{case.name}: no byte named: {ill}")
         return
     count.there_and_back += 1
     text = "\n".join(lines_of(found)) + "\n"
     try:
         if bytes_of(read_text(text)) != sheet:
-            count.fail(f"{name}: the sheet does not come back from its text")
+            count.fail(f"{case.name}: the sheet does not come back from its text")
     except cell_text.Bad as bad:
-        count.fail(f"{name}: its text is not read: {bad}")
+        count.fail(f"{case.name}: its text is not read: {bad}")
 
 
-def read_back(name, lines, count):
-    said = []
+def read_back(case, count):
     try:
-        stream_to_text.explain("\n".join(lines).encode() + b"\n", False, said.append)
-    except stream_to_text.Damage as damage:
-        count.fail(f"{name}: {damage}")
-    if lines[0].startswith("ok"):
+        show.explain("\n".join(case.lines).encode() + b"\n", False, lambda line: None)
+    except show.Damage as damage:
+        count.fail(f"{case.name}: {damage}")
+    if case.lines[0].startswith("ok"):
         count.streams += 1
-        count.entries += len(lines) - 2
+        count.entries += len(case.lines) - 2
 
 
 def damaged(name, what, stream, count):
     count.damaged += 1
     try:
-        stream_to_text.Walk(stream, lambda line: None).whole()
+        show.Walk(stream, lambda line: None).whole()
         count.fail(f"{name}: nothing said of a stream {what}")
-    except stream_to_text.Damage as damage:
+    except show.Damage as damage:
         if not str(damage).startswith("byte "):
             count.fail(f"{name}: no byte named: {damage}")
 
@@ -137,28 +142,96 @@ def cut_short(name, stream, count):
     damaged(name, "with a byte too many", stream + b"\1", count)
 
 
-def padded(name, lines, count):
+def padded(case, count):
     """A library file with zero bytes after it and its report."""
-    said, stream, report = [], bytes.fromhex(lines[1]), bytes.fromhex("".join(lines[2:]))
+    said, stream, report = [], bytes.fromhex(case.lines[1]), bytes.fromhex("".join(case.lines[2:]))
     try:
-        stream_to_text.with_report(stream + bytes(2048), report, said.append)
-    except stream_to_text.Damage as damage:
-        count.fail(f"{name}: {damage}")
+        show.with_report(stream + bytes(2048), report, said.append)
+    except show.Damage as damage:
+        count.fail(f"{case.name}: {damage}")
     if not any("2048 zero bytes after ENDLIB" in line for line in said):
-        count.fail(f"{name}: nothing said of zero bytes after ENDLIB")
+        count.fail(f"{case.name}: nothing said of zero bytes after ENDLIB")
 
 
-def drawn(name, lines, count):
+def drawn(case, count):
     """A picture of the structure, or of the last one of a library, which may have none."""
     try:
-        picture, _ = stream_to_svg.draw("\n".join(lines).encode())
+        picture, _ = draw.draw("\n".join(case.lines).encode())
         xml.etree.ElementTree.fromstring("\n".join(picture))
         count.drawn += 1
-    except stream_to_svg.Fault as fault:
+    except draw.Fault as fault:
         if "no structure" not in str(fault):
-            count.fail(f"{name}: {fault}")
-    except (stream_to_text.Damage, xml.etree.ElementTree.ParseError) as fault:
-        count.fail(f"{name}: it is not drawn: {fault}")
+            count.fail(f"{case.name}: {fault}")
+    except (show.Damage, xml.etree.ElementTree.ParseError) as fault:
+        count.fail(f"{case.name}: it is not drawn: {fault}")
+
+
+def refused(case, count):
+    """A refusal's words do not doubt it."""
+    number, *places = map(int, case.lines[0].split(" ")[1:])
+    words = (refusal.about_library if case.job == LIBRARY else refusal.about)(number, *places)
+    if any("was this read rightly" in line for line in words):
+        count.fail(f"{case.name}: {case.lines[0]}, and its words are: {words[-1]}")
+
+
+def written(case, library, count):
+    """The proved library's lines, in the buffers of stored cases, and what it measures."""
+    count.written += 1
+    call = model.call_of(case.given)
+    measure, write, size = ((proved.measure_cell, proved.write_cell, proved.ENTRY) if case.job == CELL else
+                            (proved.measure_library, proved.write_library, proved.LIBRARY_ENTRY))
+    answer, out, report = write(library, *call, BUFFERS[case.job])
+    number, *places, length, entries, greatest = answer
+    if number:
+        found = [" ".join(map(str, ("no", number, *places)))]
+    else:
+        found = model.accepted_lines(out[:length], [report[at:at + size] for at in range(0, size * entries, size)], greatest)
+    if found != case.lines:
+        count.fail(f"{case.name}: the proved library says {found[0]}")
+    if number not in (21, 22) and measure(library, *call) != answer:
+        count.fail(f"{case.name}: the proved library measures {measure(library, *call)} and writes {answer}")
+
+
+def one_case(case, library, count):
+    count.cases += 1
+    found = model.JOBS[case.job](case.given)
+    if found != case.lines:
+        count.fail(f"{case.name}: the model says {found[0]}")
+    there_and_back(case, case.given[case_files.FRONT:], count)
+    read_back(case, count)
+    if case.lines[0].startswith("ok"):
+        cut_short(case.name, bytes.fromhex(case.lines[1]), count)
+        drawn(case, count)
+        if case.job == LIBRARY:
+            padded(case, count)
+    elif case.lines[0].startswith("no"):
+        refused(case, count)
+    if library and not case_files.no_answer(case.job, case.given):
+        written(case, library, count)
+
+
+# ---- the proved library
+
+
+def loaded():
+    """The proved library; without it nothing can be asked, and a line says so."""
+    try:
+        return proved.load()
+    except proved.Missing as missing:
+        print(f"the proved library is not asked: {missing}")
+        return None
+
+
+def asked(library, kind, function, count):
+    """Stored bounds or surveys."""
+    for name, operands, answer in conversions.stored_answers(*kind):
+        count.asked += 1
+        found = function(library, *operands)
+        if found != answer:
+            count.fail(f"{name}: stored {answer}, and the proved library says {found}")
+
+
+# ---- what must fail
 
 
 def bad_texts(read, texts, count):
@@ -171,141 +244,75 @@ def bad_texts(read, texts, count):
                 count.fail(f"{text[:60]!r}: {bad}")
 
 
-def bad_uses(tool, uses, count):
-    for words, why in uses:
+def bad_cases(count):
+    for line, why in BAD_CASES:
         try:
-            tool.numbers(words.split())
-            count.fail(f"{tool.__name__}.py accepts: {words}")
-        except arguments.Wrong as wrong:
-            if why not in str(wrong):
-                count.fail(f"{tool.__name__}.py {words}: {wrong}")
+            case_files.case_of(line)
+            count.fail(f"accepted: {line}")
+        except case_files.Fault as fault:
+            if why not in str(fault):
+                count.fail(f"{line}: {fault}")
 
 
-def range_words(least, greatest):
-    return f"least {least}, greatest {greatest}"
+# ---- what is stored twice
 
 
-def survey_words(clean, due, refused):
-    return f"clean {clean}, due {due}, refused {refused}"
+def stored_files(count):
+    """What the tools make is what the crates have."""
+    made = {"crates/test_vectors/stdin": pack_cases.pack(pack_cases.all_cases())[0], "crates/test_conversions/stdin": conversions.records()}
+    made.update(computed_cases.made(*map(tool_calls.stored, ("cells", "libraries")))[0])
+    for path, data in made.items():
+        count.made += 1
+        if files.read_input(os.path.join(ROOT, path)) != data:
+            count.fail(f"{path} is not what the tools make")
 
 
-def stored(tool, library, layout, words, count):
-    """What a tool says of each stored case, in its first line."""
-    with open(os.path.join(HERE, f"{tool.__name__}_cases.txt"), encoding="ascii") as f:
-        for line in f:
-            if line.startswith("#"):
-                continue
-            name, given, answer = line.rstrip("\n").split(" ", 2)
-            count.asked += 1
-            values = struct.unpack(layout, bytes.fromhex(given))
-            said, status = tool.told(library, *values)
-            first, *rest = said.split("\n")
-            word, *numbers = answer.split(" ")
-            if word == "ok":
-                right = (first, status) == (words(*numbers), 0)
-            else:
-                right = first.startswith((f"refusal {numbers[0]}:", f"refusal {numbers[0]},")) and status == 1
-            if not right:
-                count.fail(f"{name}: {answer}, and {tool.__name__}.py says: {first}")
-            elif tool is survey and word == "ok" and rest != picture(*values):
-                count.fail(f"{name}: the row is shown as {rest}")
+def found_in(path, heading, pattern):
+    """What a pattern of two groups finds after a heading, up to the next closing brace at a line's start: the second by the first."""
+    text = files.read_input(os.path.join(ROOT, path)).decode("utf-8")
+    return dict(re.findall(pattern, text.partition(heading)[2].partition("\n}")[0]))
 
 
-def picture(policy, d, pitch, n):
-    """The row as the model has it, place by place."""
-    row = [conversions.placed(policy, d, pitch, i) for i in range(n)]
-    if not any(row):
-        return ["no place is disturbed"]
-    each = -(-n // 1024)
-    marks = "".join(".ox"[max(row[start:start + each])] for start in range(0, n, each))
-    lines = [f"{start * each:5}  {marks[start:start + 64]}" for start in range(0, len(marks), 64)]
-    return [f"a mark is {'one place' if each == 1 else f'{each} places'}: . clean, o due, x refused"] + lines
+def refusals(count):
+    """Their names, numbers and words are the same wherever they stand."""
+    count.refusals = len(refusal.TABLE)
+    own = {re.sub("(?<=[a-z])(?=[A-Z])", "_", name).upper(): number
+           for name, number in found_in("crates/refusal/src/lib.rt", "fn number(", r"Refusal::(\w+) => (\d+),").items()}
+    numbers = {name: number for name, number in own.items() if int(number) in refusal.TABLE}
+    words = {name: refusal.TABLE[int(number)][1] for name, number in numbers.items()}
+    if len(numbers) != len(refusal.TABLE):
+        count.fail("a refusal of the command is none of crates/refusal")
+    for path, heading, pattern, wanted in (
+        ("exports/c/ravenvanity.h", "enum ravenvanity_refusal {", r"RAVENVANITY_REFUSAL_(\w+) = (\d+)", numbers),
+        ("exports/c/ravenvanity_report.h", "ravenvanity_refusal_words(", r'case RAVENVANITY_REFUSAL_(\w+): return "(.*)";', words),
+        ("exports/rust/ravenvanity.rs", "pub mod refusal {", r"pub const (\w+): u8 = (\d+);", numbers),
+        ("exports/rust/ravenvanity_report.rs", "fn refusal_words(", r'refusal::(\w+) => "(.*)",', words),
+    ):
+        found = found_in(path, heading, pattern)
+        for name in sorted(name for name in {*wanted, *found} if wanted.get(name) != found.get(name)):
+            count.fail(f"{path}: refusal {name} is {found.get(name)!r}, not {wanted.get(name)!r}")
 
 
-def stored_answers(count):
-    """The proved library; without it nothing can be asked, and a line says so."""
-    try:
-        proved = exported.load()
-    except exported.Missing as missing:
-        print(f"bounds.py, survey.py and library.py are not tried on cases: {missing}")
-        return None
-    stored(bounds, proved, ">Bddd", range_words, count)
-    stored(survey, proved, ">BddI", survey_words, count)
-    return proved
-
-
-def written(name, given, lines, proved, count):
-    """A stored library, written by the proved library and through library.py."""
-    count.written += 1
-    policy, d, sheet = model.call_of(given)
-    buffers = model.LIBRARY_OUTPUT, model.LIBRARY_REPORT
-    (number, cell, block, length, entries, greatest), file, report = exported.write_library(proved, policy, d, sheet, buffers)
-    report = [report[at:at + exported.LIBRARY_ENTRY] for at in range(0, exported.LIBRARY_ENTRY * entries, exported.LIBRARY_ENTRY)]
-    if number:
-        found = [f"no {number} {cell} {block}"]
-    else:
-        found = model.accepted_lines(file[:length], report, greatest)
-    if found != lines:
-        count.fail(f"{name}: the proved library says {found[0]}")
-    if number in (21, 22):
-        return
-    words, status, whole, told_report = library.told(proved, policy, d, sheet)
-    if number:
-        right = status == 1 and words.startswith(f"refusal {number}, ")
-    else:
-        right = status == 0 and (whole, told_report) == (file[:length], b"".join(report)) and words.startswith(f"accepted: {length} byte")
-    if not right:
-        count.fail(f"{name}: {lines[0]}, and library.py says: {words}")
-
-
-def refused(name, job, lines, count):
-    """A refusal's words do not doubt it."""
-    number, *places = map(int, lines[0].split(" ")[1:])
-    words = refusal.about_library(number, *places) if job == model.LIBRARY else refusal.about(number, *places)
-    if any("was this read rightly" in line for line in words):
-        count.fail(f"{name}: {lines[0]}, and refusal.py says: {words[-1]}")
-
-
-def one_case(name, job, given, lines, proved, count):
-    count.cases += 1
-    found = model.JOBS[job](given)
-    if found != lines:
-        count.fail(f"{name}: the model says {found[0]}")
-    there_and_back(name, job, given[9:], count)
-    read_back(name, lines, count)
-    if lines[0].startswith("ok"):
-        cut_short(name, bytes.fromhex(lines[1]), count)
-        drawn(name, lines, count)
-    elif lines[0].startswith("no"):
-        refused(name, job, lines, count)
-    if job == model.LIBRARY and lines[0].startswith("ok"):
-        padded(name, lines, count)
-    if job == model.LIBRARY and proved:
-        written(name, given, lines, proved, count)
-
-
-def main():
-    if len(sys.argv) < 2:
-        sys.exit("check_tools.py: files of cases, please")
-    count = Count()
+def main(words):
+    called.no_option(words)
+    if not words:
+        raise called.Wrong("it takes files of cases")
+    cases = [case for path in words for case in case_files.read_cases(path)]
+    count, library = Count(), loaded()
+    for case in cases:
+        one_case(case, library, count)
+    if library:
+        asked(library, conversions.BOUNDS_CASES, proved.convert_bounds, count)
+        asked(library, conversions.SURVEY_CASES, proved.survey_pitch, count)
     bad_texts(cell_text.read_cell, BAD_TEXTS, count)
     bad_texts(library_text.read_library, BAD_LIBRARIES, count)
-    bad_uses(bounds, BAD_BOUNDS, count)
-    bad_uses(survey, BAD_SURVEYS, count)
-    bad_uses(library, BAD_CALLS, count)
-    proved = stored_answers(count)
-    try:
-        for path in sys.argv[1:]:
-            pack_cases.pack(path)
-            for case in model.read_cases(path):
-                one_case(*case, proved, count)
-    except (OSError, pack_cases.Bad) as fault:
-        sys.exit(f"check_tools.py: {form.plain(fault)}")
-    print(f"{count.cases} cases: {count.there_and_back} sheets there and back, {count.ill} ill-formed; {count.streams} streams and "
-          f"{count.entries} entries read, {count.drawn} drawn; {len(BAD_TEXTS) + len(BAD_LIBRARIES)} faulty texts, {count.damaged} damaged streams; "
-          f"{count.asked} bounds and surveys, {len(BAD_BOUNDS) + len(BAD_SURVEYS) + len(BAD_CALLS)} wrong uses; {count.written} libraries written; {count.wrong} wrong")
-    sys.exit(count.wrong != 0)
+    bad_cases(count)
+    tool_calls.check(count)
+    stored_files(count)
+    refusals(count)
+    print(count.line())
+    return count.wrong != 0
 
 
 if __name__ == "__main__":
-    main()
+    called.run(main, __doc__)

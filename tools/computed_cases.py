@@ -1,27 +1,35 @@
-"""Makes the data of the crate `cases`, and the list of definitions that its tests open.
+"""Makes the data of the crate `cases`, and the list of definitions that its tests open. A convenience, outside the proof.
 
-    python3 tools/computed_cases.py VECTORS LIBRARIES     run in the repository's root
+    python3 tools/computed_cases.py CELLS LIBRARIES
 
-VECTORS is a file of stored cases, one to a line: a name, the program's input in hex, and the
-lines that it prints, joined by `|`. From these the script takes small cells that together have
-every element kind, policy, record, report field and refusal number, and an array turned by an
-angle (crates/cases/specs/Cells.antt). The stored cases that end in 21 and 22 are large, so cells
-with shorter buffers stand in for them, with the answer that follows from the stored one. Two cells of
-document 01's rows are written here by hand. So are the streams (crates/cases/specs/Streams.antt), but
-for some of the stored cells; what is read from them is the answer of tools/reading_model.py, and what
-that is written to the answer of tools/model.py.
-LIBRARIES is such a file with one word more in front of the input, its job, of which `library` is taken:
-small libraries that together have every policy, with entries and without, odd and even names, no, one and
-more cells, entries of several cells and the reals 0.001 and 1e-9 in UNITS, and of every refusal the
-smallest, where those in a cell's elements count as one (crates/cases/specs/Libraries.antt).
-crates/cases/proofs/Open.antt opens every definition of the specs below `cases`."""
-import glob, os, re, struct, sys
+Both are files of stored cases (tools/case_files.py): tools/stored/cells.txt.xz and tools/stored/libraries.txt.xz. It writes
+Cells.antt, Streams.antt and Libraries.antt in crates/cases/specs and Open.antt in crates/cases/proofs, all four or none.
 
+Of CELLS it takes small cells that together have every element kind, policy, record, report field and refusal number, and
+an array turned by an angle (Cells.antt). The stored cases that end in 21 and 22 are large, so cells with shorter buffers
+stand in for them, with the answer that follows from the stored one. Two cells of document 01's rows are written here by
+hand. So are the streams (Streams.antt), but for some of the stored cells; what is read from them is the answer of
+tools/reading_model.py, and what that is written to the answer of tools/model.py.
+Of LIBRARIES it takes small libraries that together have every policy, with entries and without, odd and even names, no,
+one and more cells, entries of several cells and the reals 0.001 and 1e-9 in UNITS, and of every refusal the smallest, where
+those in a cell's elements count as one (Libraries.antt).
+Open.antt opens every definition of the specs below `cases`.
+
+Exit status: 0 with the four files, 1 where a file cannot be read or written, 2 where it was called wrongly.
+"""
+import os
+import pathlib
+import re
+import struct
+
+import called
 import model
 import reading_model
+from case_files import CELL, FRONT, LIBRARY, Case, read_cases
+from ravenvanity import files
 
-OUT, REPORT = 16384, 8192          # the program's buffers
-OUTSIDE = 2**32 - 1                # the cell of a refusal outside a library's cells
+ROOT = pathlib.Path(__file__).resolve().parent.parent
+OUTSIDE = model.NO_CELL            # the cell of a refusal outside a library's cells
 LARGEST, LARGEST_LIBRARY = 700, 600   # bytes of input, so that the check stays quick
 
 # ---- cells
@@ -48,16 +56,16 @@ def codes(stream):
 
 
 class Vector:
-    def __init__(self, line):
-        self.name, given, printed = line.rstrip("\n").split(" ", 2)
-        self.input = b"" if given == "-" else bytes.fromhex(given)
-        self.lines = printed.split("|")
+    JOB = CELL
+
+    def __init__(self, case):
+        self.case, self.name, self.input, self.lines = case, case.name, case.given, case.lines
         self.fields = self.lines[0].split()
-        self.out, self.report = OUT, REPORT
+        self.out, self.report = model.OUTPUT, model.REPORT
 
     def features(self):
         """What an accepted cell shows."""
-        policy, sheet = self.input[0], self.input[9:]
+        policy, _, sheet = model.call_of(self.input)
         found = {("policy", policy)}
         for b in blocks(sheet)[1:]:
             found.add(("kind", b[0], policy))
@@ -76,7 +84,7 @@ class Vector:
         if block == 0:
             return 0
         try:
-            return blocks(self.input[9:])[block][:1]
+            return blocks(self.input[FRONT:])[block][:1]
         except (struct.error, IndexError):
             return None
 
@@ -88,8 +96,8 @@ class Vector:
         return f"ok {f[1]} {f[2]} 0x{f[3]} 0x{self.lines[1]} 0x{report or '0'}"
 
     def cell(self, why=""):
-        sheet = self.input[9:]
-        return (f"record {{ policy = {self.input[0]}; unit = 0x{self.input[1:9].hex()}; size = {len(sheet)}; sheet = 0x{sheet.hex() or '0'}; "
+        sheet = self.input[FRONT:]
+        return (f"record {{ policy = {self.input[0]}; unit = 0x{self.input[1:FRONT].hex()}; size = {len(sheet)}; sheet = 0x{sheet.hex() or '0'}; "
                 f"out = {self.out}; report = {self.report}; expected = {self.expected()} }} {{- {self.name}{why} -}}")
 
 
@@ -121,11 +129,11 @@ def shortened(vectors, entry=33, outside=""):
     """The first with an entry: buffers that just hold it, an output one byte short, a report one byte short."""
     first = next((x for x in vectors if x.fields[0] == "ok" and len(x.lines) > 2), None)
     if first is None:
-        raise ValueError("no small case has a report entry")
+        raise called.Bad("no small case that was read has a report entry")
     cells = []
     for out, report, number, why in ((0, 0, None, ", buffers just long enough"), (-1, 0, 21, ", output a byte short"),
                                      (-1, -1, 21, ", both a byte short"), (0, -1, 22, ", report a byte short")):
-        v = type(first)(first.line)
+        v = type(first)(first.case)
         v.out, v.report = int(v.fields[1]) + out, entry * int(v.fields[2]) + report
         if number:
             v.fields = f"no {number} {outside}0".split()
@@ -136,7 +144,7 @@ def shortened(vectors, entry=33, outside=""):
 def documents_example():
     """Document 01, "Rows": the program's example."""
     given = "003ff0000000000000000000010000000c0000001b000141" + 48 * "0"
-    return Vector(f"the-example {given} ok 38 0 0000000000000000|001c0502{48 * '0'}00060606410000040700\n")
+    return Vector(Case("the-example", CELL, bytes.fromhex(given), ["ok 38 0 0000000000000000", f"001c0502{48 * '0'}00060606410000040700"]))
 
 
 def documents_array():
@@ -149,26 +157,26 @@ def documents_array():
     stream = (word(5, *([0] * 12)) + string(6, b"A\0") + empty(0x0b) + string(0x12, b"B\0") + word(0x13, 4, 1)
               + long(0x10, 1, 0, 45, 0, 1, 0) + ENDEL + END)
     entry = struct.pack(">IBBBHIdid", 0, 5, 7, 0, 0, 4, 42.5, 45, 2.5)
-    given = (b"\0" + struct.pack(">d", 1) + sheet).hex()
-    return Vector(f"the-array {given} ok {len(stream)} 1 {struct.pack('>d', 2.5).hex()}|{stream.hex()}|{entry.hex()}\n")
+    return Vector(Case("the-array", CELL, b"\0" + struct.pack(">d", 1) + sheet, model.accepted_lines(stream, [entry], 2.5)))
 
 
-def read_vectors(path):
-    vectors = []
-    for line in open(path):
-        v = Vector(line)
-        v.line = line
-        if v.fields[0] in ("ok", "no"):
-            vectors.append(v)
-    return vectors
+def stored(path, kind):
+    """The answered cases of a kind; an answer that is not the model's is not understood."""
+    cases = [case for case in read_cases(path) if case.job == kind.JOB and case.lines[0][:2] in ("ok", "no")]
+    for case in cases:
+        if model.JOBS[case.job](case.given) != case.lines:
+            raise called.Bad(f"{files.name_of(path)}: the answer of {case.name} is not that of model.py")
+    if not cases:
+        raise called.Bad(f"{files.name_of(path)}: there is no {kind.JOB} in it")
+    return [kind(case) for case in cases]
 
 
 def listing(name, cells, kind="Case"):
     return f"unfoldable pub {name} : List {kind}\n{name} =\n" + "".join(f"    {'∷ ' if k else ''}{c}\n" for k, c in enumerate(cells)) + "    ∷ []\n"
 
 
-def cells_module(path):
-    small = [v for v in read_vectors(path) if len(v.input) <= LARGEST]
+def cells_module(vectors):
+    small = [v for v in vectors if len(v.input) <= LARGEST]
     cells = [v.cell() for v in accepted(small) + refusals(small)] + shortened(small)
     rows = [documents_example().cell(), documents_array().cell()]
     return len(cells), '''-- Cells and the answers that are known of them, from outside the definitions: made by tools/computed_cases.py. Assumes nothing.
@@ -183,19 +191,16 @@ use Rattle.cases.specs.Case.{Case, no, ok}
 
 
 class Library(Vector):
-    def __init__(self, line):
-        name, self.job, rest = line.split(" ", 2)
-        super().__init__(f"{name} {rest}")
-        self.line = line
+    JOB = LIBRARY
 
     def features(self):
         """What an accepted library shows."""
-        head, *cells = blocks(self.input[9:])
+        head, *cells = blocks(self.input[FRONT:])
         name = head[2:-32]
         report = [bytes.fromhex(e) for e in self.lines[2:]]
         return {("policy", self.input[0], bool(report)), ("cells", min(len(cells), 2)), ("length", len(name) % 2), ("zero", name[-1:] == b"\0"),
                 ("entries", tuple(sorted({e[3] for e in report}))), ("stamps", any(head[-24:])),
-                ("units", head[-32:-24] == struct.pack(">d", 0.001) and self.input[1:9] == struct.pack(">d", 1e-9))}
+                ("units", head[-32:-24] == struct.pack(">d", 0.001) and self.input[1:FRONT] == struct.pack(">d", 1e-9))}
 
     def fault(self):
         """Of a refused library: the number and the cell; of a block in a cell, the cell alone; of 23, whether it has its pairs."""
@@ -203,7 +208,7 @@ class Library(Vector):
         return number if block == 0 else OUTSIDE, cell, number == 23 and self.has_pairs()
 
     def has_pairs(self):
-        sheet = self.input[9:]
+        sheet = self.input[FRONT:]
         try:
             parts = blocks(sheet)
         except struct.error:
@@ -224,9 +229,8 @@ def refused_libraries(libraries):
     return [first[f] for f in sorted(first)]
 
 
-def libraries_module(path):
-    stored = [Library(line) for line in open(path) if line.split(" ", 2)[1:2] == ["library"]]
-    small = [v for v in stored if len(v.input) <= LARGEST_LIBRARY]
+def libraries_module(libraries):
+    small = [v for v in libraries if len(v.input) <= LARGEST_LIBRARY]
     rows = [v.cell() for v in accepted(small) + refused_libraries(small)] + shortened(small, 37, f"{OUTSIDE} ")
     return len(rows), '''-- Libraries and the answers that are known of them, from outside the definitions: made by tools/computed_cases.py. Assumes nothing.
 use mathlib.Core.List.{List, [], _∷_}
@@ -509,14 +513,14 @@ def stream_row(why, data):
             f"reading = {read_as(data)} }} {{- {why} -}}")
 
 
-def streams_module(path):
+def streams_module(vectors):
     """The streams above, and those of small stored cells, each with what the model finds in it."""
     by_hand = grammar_streams()
     for why, data, fault in by_hand:
         assert reading_model.grammar_fault(data) == fault, why
     rows = [(why, data) for why, data, _ in by_hand] + sheet_streams()
-    stored = sorted((v for v in read_vectors(path) if v.fields[0] == "ok"), key=lambda v: len(v.lines[1]))
-    rows += [(v.name, bytes.fromhex(v.lines[1])) for v in stored if len(v.lines[1]) <= 2 * LARGEST][::16]
+    accepted_ones = sorted((v for v in vectors if v.fields[0] == "ok"), key=lambda v: len(v.lines[1]))
+    rows += [(v.name, bytes.fromhex(v.lines[1])) for v in accepted_ones if len(v.lines[1]) <= 2 * LARGEST][::16]
     return len(rows), '''-- Streams with what is read from them: made by tools/computed_cases.py. Assumes nothing.
 use mathlib.Core.Option.{Option, none, some}
 use mathlib.Core.List.{List, [], _∷_}
@@ -551,35 +555,39 @@ IEEE = "ofBits toBits mul div sub neg lt le eq ofInt round sum add size".split()
 def open_module():
     uses, names = [], []
     for crate in BELOW:
-        for path in sorted(glob.glob(f"crates/{crate}/specs/*.antt") + glob.glob(f"crates/{crate}/specs/code/*.antt"), key=os.path.basename):
-            module = os.path.basename(path)[:-5]
-            within = "code." if os.path.dirname(path).endswith("code") else ""
-            found = re.findall(r"^\s*unfoldable pub (\S+)", open(path).read(), re.M)
+        specs = ROOT / "crates" / crate / "specs"
+        paths = sorted([*specs.glob("*.antt"), *specs.glob("code/*.antt")], key=lambda path: path.name)
+        if not paths:
+            raise called.Bad(f"{specs}: there are no definitions in it")
+        for path in paths:
+            found = re.findall(r"^\s*unfoldable pub (\S+)", path.read_text(encoding="utf-8"), re.M)
             if found:
-                short = "".join(w.title() for w in crate.split("_")) + "·" + module
-                uses.append(f"use Rattle.{crate}.specs.{within}{module} as {short}")
+                short = "".join(w.title() for w in crate.split("_")) + "·" + path.stem
+                uses.append(f"use Rattle.{crate}.specs.{'code.' if path.parent != specs else ''}{path.stem} as {short}")
                 names += [f"{short}.{n}" for n in found]
     return ("-- Every definition of the specs, opened: under `unfolding opened` a test computes with them all. Made by tools/computed_cases.py. Assumes nothing.\n"
             + "use mathlib.Core.Bool.{true}\nuse lib.Dec.{T}\nuse lib.Ieee as Ieee\n" + "\n".join(uses) + "\n\nunfoldable pub opened : T true\nunfolding "
             + " ".join(names + [f"Ieee.{n}" for n in IEEE]) + "\nopened = tt\n")
 
 
-def main():
-    if len(sys.argv) != 3:
-        print("computed_cases.py: it takes a file of cells and a file of libraries", file=sys.stderr)
-        return 2
-    try:
-        count, cells = cells_module(sys.argv[1])
-        number, rows = streams_module(sys.argv[1])
-        several, libraries = libraries_module(sys.argv[2])
-    except (OSError, ValueError) as why:
-        print(f"computed_cases.py: {why}", file=sys.stderr)
-        return 1
-    for path, content in (("specs/Cells.antt", cells), ("specs/Streams.antt", rows), ("specs/Libraries.antt", libraries), ("proofs/Open.antt", open_module())):
-        with open("crates/cases/" + path, "w") as f:
-            f.write(content)
-    print(f"{count} cells, {number} streams, {several} libraries")
-    return 0
+def made(cells_path, libraries_path):
+    """({path below the root: bytes} of the four files, what was taken in words)"""
+    vectors, libraries = stored(cells_path, Vector), stored(libraries_path, Library)
+    count, cells = cells_module(vectors)
+    number, streams = streams_module(vectors)
+    several, rest = libraries_module(libraries)
+    modules = {"specs/Cells.antt": cells, "specs/Streams.antt": streams, "specs/Libraries.antt": rest, "proofs/Open.antt": open_module()}
+    return {f"crates/cases/{path}": content.encode() for path, content in modules.items()}, f"{count} cells, {number} streams, {several} libraries"
 
 
-sys.exit(main())
+def main(words):
+    called.no_option(words)
+    if len(words) != 2:
+        raise called.Wrong("it takes a file of cells and a file of libraries")
+    contents, taken = made(*words)
+    files.write_all([(os.path.join(ROOT, path), content) for path, content in contents.items()])
+    print(taken)
+
+
+if __name__ == "__main__":
+    called.run(main, __doc__)

@@ -4,7 +4,12 @@
 A model of convert_unit, convert_physical and checked_array_endpoint of gdsr's write/conversion.rs, and of document 02's
 requests 11 and 12. Products, quotients and differences are Python's own, IEEE doubles; rounding to whole numbers is done exactly,
 over fractions, and the step between neighbours by the bit patterns. Where two bounds are few steps apart, every double
-between them is converted. Each case is 54 bytes on standard output, numbers with the highest byte first:
+between them is converted.
+
+    python3 tools/conversions.py > crates/test_conversions/stdin
+    python3 tools/conversions.py text       a line to read for each case
+
+Each case is 54 bytes on standard output, numbers with the highest byte first:
 
     0  1  what: 0 an integer with its unit, 1 a double with its unit, 2 an array's endpoint, 3 two bounds, 4 a pitch survey
     1  1  policy: 0 nearest, 1 floor, 2 ceiling, 3 strict
@@ -16,8 +21,9 @@ between them is converted. Each case is 54 bytes on standard output, numbers wit
    38  8  the physical value of a deviation that counts, else 0; of bounds four zeros and the greatest database value in 32 bits, or 0; of a survey the places with an entry due
    46  8  its error, else 0; of a survey the refused places
 
-The cases of bounds_cases.txt and of survey_cases.txt, whose answers are another model's, stand after those of their kind. With the argument `text` it writes lines to
-read. tools/README.md says how it is run.
+The cases of bounds_cases.txt and of survey_cases.txt, whose answers are another model's, stand after those of their kind.
+
+Exit status: 0 with the cases, 1 where these two files cannot be read or differ, 2 where it was called wrongly.
 """
 import math
 import os
@@ -26,12 +32,18 @@ import struct
 import sys
 from fractions import Fraction
 
+import called
+from ravenvanity import files
+
 POLICY, DATABASE_UNIT, SOURCE_UNIT, NOT_FINITE, OFF_GRID, OUT_OF_RANGE, BAD_BOUNDS, SURVEY_COUNT = 1, 2, 16, 17, 18, 19, 32, 33
 NEAREST, FLOOR, CEIL, STRICT = range(4)
 INTEGER, DOUBLE, ENDPOINT, BOUNDS, SURVEY = range(5)
 MAX_PLACES = 65536
 FEW = 64  # doubles between two bounds that are all looked at
+# files of stored cases, the layout of a case's input, and how many numbers an answer has
+BOUNDS_CASES, SURVEY_CASES = ("bounds_cases.txt", ">Bddd", 2), ("survey_cases.txt", ">BddI", 3)
 HERE = os.path.dirname(os.path.abspath(__file__))
+TEXT = "text"
 
 
 class Refused(Exception):
@@ -200,18 +212,37 @@ def survey(policy, d, pitch, n):
     return record, f"policy {policy} unit {d!r}: {n} places of {pitch!r} -> {said}"
 
 
-def stored(path, layout, made, words):
+def answer_of(words, count):
+    """(0, the numbers), or (the refusal's number, zeros)"""
+    word, numbers = words[0], list(map(int, words[1:]))
+    if word == "no" and len(numbers) == 1:
+        return (numbers[0],) + count * (0,)
+    if word == "ok" and len(numbers) == count:
+        return (0, *numbers)
+    raise ValueError
+
+
+def stored_answers(name, layout, count):
+    """(name, operands, answer) of each case of another model."""
+    path = os.path.join(HERE, name)
+    for number, line in enumerate(files.read_input(path).decode("ascii", "replace").splitlines(), 1):
+        if line.startswith("#"):
+            continue
+        try:
+            case, given, *words = line.split(" ")
+            yield case, struct.unpack(layout, bytes.fromhex(given)), answer_of(words, count)
+        except (ValueError, IndexError, struct.error):
+            raise called.Bad(f"{path}, line {number}: it is no stored case") from None
+
+
+def stored(kind, made, words):
     """Another model's cases; this one's answer must be the same."""
-    with open(os.path.join(HERE, path), encoding="ascii") as f:
-        for line in f:
-            if line.startswith("#"):
-                continue
-            name, given, answer = line.rstrip("\n").split(" ", 2)
-            record, said = made(*struct.unpack(layout, bytes.fromhex(given)))
-            told = "refused " + answer[3:] if answer.startswith("no ") else words.format(*answer.split(" ")[1:])
-            if not said.endswith(f"-> {told}"):
-                sys.exit(f"conversions.py: {name}: stored {answer}, and here {said}")
-            yield record, f"{name}: {said}"
+    for case, operands, (refused, *numbers) in stored_answers(*kind):
+        record, said = made(*operands)
+        told = f"refused {refused}" if refused else words.format(*numbers)
+        if not said.endswith(f"-> {told}"):
+            raise called.Bad(f"{case}: stored {told}, and here {said}")
+        yield record, f"{case}: {said}"
 
 
 def values():
@@ -331,20 +362,26 @@ def cases():
     for policies, d, lower, upper in pairs():
         for policy in policies:
             yield bounds(policy, d, lower, upper)
-    yield from stored("bounds_cases.txt", ">Bddd", bounds, "{} to {}")
+    yield from stored(BOUNDS_CASES, bounds, "{} to {}")
     for policies, d, pitch, n in rows():
         for policy in policies:
             yield survey(policy, d, pitch, n)
-    yield from stored("survey_cases.txt", ">BddI", survey, "{} clean, {} due, {} refused")
+    yield from stored(SURVEY_CASES, survey, "{} clean, {} due, {} refused")
 
 
-def main():
-    for number, (record, line) in enumerate(cases()):
-        if "text" in sys.argv[1:]:
+def records():
+    return b"".join(record for record, _ in cases())
+
+
+def main(words):
+    if words == [TEXT]:
+        for number, (_, line) in enumerate(cases()):
             print(number, line)
-        else:
-            sys.stdout.buffer.write(record)
+    elif words:
+        raise called.Wrong(f"it takes `{TEXT}` or no word")
+    else:
+        files.write_whole(files.STANDARD, records())
 
 
 if __name__ == "__main__":
-    main()
+    called.run(main, __doc__)

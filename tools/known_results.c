@@ -1,7 +1,8 @@
 // Known results of the arithmetic on doubles, for the program `test_arithmetic`: C's own fma, round, floor and ceil, on
 // cases chosen below. Each case is 33 bytes on standard output: the number of a function, its three operands and its
 // result, as the bit patterns of doubles, the highest byte first. With the argument `text` it writes lines of hex.
-// tools/README.md says how it is built and run.
+// tools/README.md says how it is built and run. Exit status: 0 with the cases, 1 where they cannot be written, 2 where it
+// was called wrongly.
 #include <math.h>
 #include <stdint.h>
 #include <stdio.h>
@@ -166,10 +167,18 @@ static void patterns(void) {
 }
 
 int main(int count, char **words) {
-    text = count > 1 && strcmp(words[1], "text") == 0;
+    text = count == 2 && strcmp(words[1], "text") == 0;
+    if (count > 1 && !text) {
+        fprintf(stderr, "known_results: it takes `text` or no word\n");
+        return 2;
+    }
     mul_adds();
     all_roundings();
     steps();
     patterns();
+    if (fflush(stdout) || ferror(stdout)) {
+        fprintf(stderr, "known_results: the cases cannot be written to standard output\n");
+        return 1;
+    }
     return 0;
 }

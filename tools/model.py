@@ -5,19 +5,23 @@ It follows document 01, request 1 of document 02, and gdsr's write/mod.rs, valid
 code with the proved writer. Products, quotients and differences are Python's, IEEE doubles; mul_add, rounding to whole
 numbers and eight-byte reals are worked out over exact fractions; one step is taken from bit patterns.
 
-    model.py CASES      compares the answers stored in a file of cases with the model's, and counts
+    model.py CASES      compares the answers stored in a file of cases (tools/case_files.py) with the model's, and counts
     model.py            reads the program's input from standard input and prints the program's lines
+
+Exit status: 0 where no answer differs, 1 where one does or the file cannot be read, 2 where it was called wrongly.
 """
 import math
 import re
 import struct
-import sys
 from fractions import Fraction
 
-import sheet as form
-from sheet import bits_of, double_of
+import called
+from case_files import CELL, FRONT, LIBRARY, no_answer, read_cases
+from ravenvanity import files
+from ravenvanity import sheet as form
+from ravenvanity.sheet import bits_of, double_of
 
-OUTPUT, REPORT, LONGEST_SHEET, MAX_SHEET = 16384, 8192, 24576, 16777216
+OUTPUT, REPORT, MAX_SHEET = 16384, 8192, 16777216
 LIBRARY_OUTPUT, LIBRARY_REPORT, NO_CELL, LONGEST_STRING = 65536, 16384, 4294967295, 65530  # the first two: buffers of stored libraries
 NEAREST, FLOOR, CEILING, STRICT = range(4)
 POINT, WIDTH, BEGIN, END, ORIGIN, COLUMN, ROW, COLUMN_END, ROW_END = range(9)
@@ -318,7 +322,7 @@ def write_structure(policy, d, sheet):
     return b"".join(parts) + record(0x07, 0), found
 
 
-def called(policy, d, sheet):
+def check_call(policy, d, sheet):
     need(policy <= 3, 1)
     need(positive(d), 2)
     need(len(sheet) <= MAX_SHEET, 3)
@@ -334,7 +338,7 @@ def fitted(stream, found, output, report):
 
 def write_cell(policy, d, sheet, output=OUTPUT, report=REPORT):
     """(structure, entries, greatest error), or Refused."""
-    called(policy, d, sheet)
+    check_call(policy, d, sheet)
     return fitted(*write_structure(policy, d, sheet), output, report)
 
 
@@ -364,7 +368,7 @@ def library_front(d, sheet):
 
 def library(policy, d, sheet, output=LIBRARY_OUTPUT, report=LIBRARY_REPORT):
     """(file, entries, greatest error), or Refused with the cell."""
-    called(policy, d, sheet)
+    check_call(policy, d, sheet)
     front, cells = library_front(d, sheet)
     parts, found = [front], []
     for k, (offset, length) in enumerate(cells):
@@ -386,15 +390,13 @@ def accepted_lines(stream, entries, greatest):
 
 def call_of(given):
     """(policy, d, sheet)"""
-    return given[0], struct.unpack(">d", given[1:9])[0], given[9:]
+    return given[0], struct.unpack(">d", given[1:FRONT])[0], given[FRONT:]
 
 
 def answer(given):
     """The lines that the program prints."""
-    if len(given) < 9:
-        return ["short"]
-    if len(given) - 9 > LONGEST_SHEET:
-        return ["long"]
+    if word := no_answer(CELL, given):
+        return [word]
     try:
         return accepted_lines(*write_cell(*call_of(given)))
     except Refused as refused:
@@ -403,55 +405,37 @@ def answer(given):
 
 def library_answer(given):
     """The lines of a stored library."""
-    if len(given) < 9:
-        return ["short"]
+    if word := no_answer(LIBRARY, given):
+        return [word]
     try:
         return accepted_lines(*library(*call_of(given)))
     except Refused as refused:
         return [f"no {refused.number} {refused.cell} {refused.block}"]
 
 
-CELL, LIBRARY = "cell", "library"
 JOBS = {CELL: answer, LIBRARY: library_answer}
 
 
-def case_of(line):
-    """(name, job, input in hex, lines joined by a bar) of a case's line; a cell's job may be missing."""
-    name, _, rest = line.partition(" ")
-    job, _, others = rest.partition(" ")
-    if job in JOBS:
-        rest = others
-    given, _, printed = rest.partition(" ")
-    if not printed:
-        raise ValueError(f"a case is a name, an input and an answer, with `{LIBRARY}` before a library's input")
-    return name, job if job in JOBS else CELL, given, printed
+def compare(path):
+    """Whether a stored answer is not the model's."""
+    cases, wrong = read_cases(path), 0
+    for case in cases:
+        found = JOBS[case.job](case.given)
+        if found != case.lines:
+            wrong += 1
+            print(f"{case.name}: stored {case.lines[0]}, model {found[0]}")
+    print(f"{len(cases)} cases, {wrong} differ")
+    return wrong != 0
 
 
-def read_cases(path):
-    """(name, job, input, lines) of each case; `#` starts a comment line."""
-    with open(path, encoding="utf-8") as f:
-        for line in f:
-            if line.strip() and not line.startswith("#"):
-                name, job, given, printed = case_of(line.rstrip("\n"))
-                yield name, job, b"" if given == "-" else bytes.fromhex(given), printed.split("|")
-
-
-def main():
-    form.end_with_the_pipe()
-    if len(sys.argv) < 2:
-        print("\n".join(answer(sys.stdin.buffer.read())))
-        return
-    try:
-        cases = list(read_cases(sys.argv[1]))
-    except (OSError, ValueError) as fault:
-        sys.exit(f"model.py: {form.plain(fault)}")
-    found = [(name, lines, JOBS[job](given)) for name, job, given, lines in cases]
-    wrong = [case for case in found if case[1] != case[2]]
-    for name, lines, found in wrong:
-        print(f"{name}: stored {lines[0]}, model {found[0]}")
-    print(f"{len(cases)} cases, {len(wrong)} differ")
-    sys.exit(len(wrong) != 0)
+def main(words):
+    called.no_option(words)
+    if len(words) > 1:
+        raise called.Wrong("it takes one file of cases, or none")
+    if words:
+        return compare(words[0])
+    print("\n".join(answer(files.read_input(files.STANDARD))))
 
 
 if __name__ == "__main__":
-    main()
+    called.run(main, __doc__)

@@ -3,17 +3,26 @@
 
     python3 tools/own_cases.py > target/own_cases.txt
 
-A case is a comment line with its reason, then a line in the form that tools/pack_cases.py takes. Answers come from
+A case is a comment line with its reason, then a line of the form that stands in tools/case_files.py. Answers come from
 tools/model.py. What a cell sheet of 24,576 bytes cannot reach is not here: refusal 3, 8,191 points, a property value of
 65,530 bytes, 16,384 pairs.
+
+The cases are the same on every machine: sines and cosines are worked out here. Random ones are drawn by Python's
+random.Random with a fixed seed, by random, uniform, choice, randrange and randbytes, of which Python promises random
+alone to stay as it is; tools/check_tools.py, which holds crates/test_vectors/stdin to them, would show another draw.
+
+Exit status: 0 with the cases, 1 where they cannot be written, 2 where it was called wrongly.
 """
 import math
 import random
 import struct
+from fractions import Fraction
 
+import called
 import model
-import sheet as form
-from sheet import DOUBLE, INTEGER, NODE, NOTHING, POLYGON, TEXT, Coordinate, Property, bits_of
+from case_files import CELL, LIBRARY, Case
+from ravenvanity import sheet as form
+from ravenvanity.sheet import DOUBLE, INTEGER, NODE, NOTHING, POLYGON, TEXT, Coordinate, Property, bits_of
 
 POLICIES = ("nearest", "floor", "ceiling", "strict")
 ZERO = [0] * 12
@@ -447,11 +456,21 @@ def report():
     yield "the greatest error is the second entry's", cell(node([at(0.25, 0)]), node([at(0.5, 0)]), node([at(0.125, 0)]))
 
 
+def sine_and_cosine(angle, places=256):
+    """Each the nearest double, by the series over whole numbers with so many binary places: the last bit of the C library's is not fixed."""
+    x, term, sums = int(Fraction(angle) * 2**places), 2**places, [0, 0]
+    for k in range(96):
+        sums[k % 2] += term if k % 4 < 2 else -term
+        term = term * x // (k + 1) >> places
+    cosine, sine = sums
+    return sine / 2**places, cosine / 2**places
+
+
 def turned_pair(r):
     """A spacing and an angle for which mul_add and a product with a sum differ."""
     while True:
         a, b, angle = r.uniform(-900, 900), r.uniform(-900, 900), r.uniform(-math.pi, math.pi)
-        sine, cosine = math.sin(angle), math.cos(angle)
+        sine, cosine = sine_and_cosine(angle)
         if model.mul_add(a, cosine, -(b * sine)) != a * cosine - b * sine:
             return a, b, sine, cosine, math.degrees(angle)
 
@@ -513,9 +532,8 @@ def any_element(r):
         return text(r.randbytes(r.randrange(20)), layer=layer, vertical=r.randrange(3), horizontal=r.randrange(3), **turn)
     if kind == form.NODE:
         return node([any_point(r) for _ in range(r.randrange(1, 9))], layer, r.randrange(256), properties)
-    angle = math.radians(turn["degrees"])
-    return array(r.choice((1, 2, 100, 3000)), r.choice((1, 3, 50)), any_point(r), any_point(r), sine=math.sin(angle),
-                 cosine=math.cos(angle), **turn)
+    sine, cosine = sine_and_cosine(math.radians(turn["degrees"]))
+    return array(r.choice((1, 2, 100, 3000)), r.choice((1, 3, 50)), any_point(r), any_point(r), sine=sine, cosine=cosine, **turn)
 
 
 def mixed():
@@ -735,21 +753,20 @@ LIBRARY_GROUPS = (library_caller, library_pairs, library_front, library_stamps, 
 
 
 def cases():
-    """(reason, the words between a case's name and its input, input, the answer's lines) of every case."""
-    for group in GROUPS:
-        for reason, data in group():
-            yield reason, "", data, model.answer(data)
-    for group in LIBRARY_GROUPS:
-        for reason, data in group():
-            yield reason, f"{model.LIBRARY} ", data, model.library_answer(data)
+    """(reason, case) of every case."""
+    made = [(CELL, group) for group in GROUPS] + [(LIBRARY, group) for group in LIBRARY_GROUPS]
+    given = ((reason, job, data) for job, group in made for reason, data in group())
+    for number, (reason, job, data) in enumerate(given):
+        yield reason, Case(f"own-{number:04d}", job, data, model.JOBS[job](data))
 
 
-def main():
-    form.end_with_the_pipe()
-    for number, (reason, job, data, lines) in enumerate(cases()):
+def main(words):
+    called.no_words(words)
+    for reason, case in cases():
+        job = "" if case.job == CELL else f"{case.job} "
         print(f"# {reason}")
-        print(f"own-{number:04d} {job}{data.hex() or '-'} {'|'.join(lines)}")
+        print(f"{case.name} {job}{case.given.hex() or '-'} {'|'.join(case.lines)}")
 
 
 if __name__ == "__main__":
-    main()
+    called.run(main, __doc__)

@@ -1,14 +1,11 @@
 #!/usr/bin/env python3
-"""Packs files of stored cases into one binary file for the standard input of the program `test_vectors`. A convenience, outside the proof.
+"""Packs stored cases into one binary file for the standard input of the program `test_vectors`. A convenience, outside the proof.
 
-    pack_cases.py [-o PACK] CASES [CASES ...]
+    pack_cases.py [-o PACK] CASES [CASES ...]     files of cases (tools/case_files.py), which follow one another
+    pack_cases.py [-o PACK] --all                 tools/stored/cells.txt.xz, tools/stored/libraries.txt.xz and the cases
+                                                  of tools/own_cases.py, as crates/test_vectors/stdin has them
 
-A file of cases is text, one case to a line: a name, `library` for a library (a cell's job, `cell`, may be missing), the
-input in hex (`-` if empty), and the lines of the answer, joined by `|`. A cell's are what the program `structure` prints;
-a library's are alike, but a refusal has the cell before the block, an entry has 37 bytes, and the buffers have 65,536 and
-16,384 bytes. A line that starts with `#` is a comment. Cases of the files follow one another.
-
-The pack, numbers with the highest byte first; for each case:
+PACK is where to write; missing, it is standard output. The pack, numbers with the highest byte first; for each case:
 
     4  n, the length of the input
     n  the input: the job (0 for a cell, 1 for a library), policy byte, d in 8 bytes, sheet
@@ -27,90 +24,72 @@ The pack, numbers with the highest byte first; for each case:
 
 A cell's input under 9 bytes or with a sheet over 24,576 bytes gets no answer from the program `structure`: it is left out
 and counted, and so is a library's input under 9 bytes.
+
+Exit status: 0 with a pack, 1 where a file cannot be read or written, 2 where it was called wrongly.
 """
-import argparse
+import os
 import struct
 import sys
 
-from model import CELL, LIBRARY, case_of
-from sheet import plain
+import called
+import own_cases
+from case_files import CELL, LIBRARY, no_answer, read_cases
+from ravenvanity import files
 
-SHORTEST, LONGEST_SHEET = 9, 24576
+ALL, TO = "--all", "-o"
 JOBS = {CELL: b"\0", LIBRARY: b"\1"}
-ENTRY = {CELL: 33, LIBRARY: 37}
-PLACES = {CELL: ("a block", ">BBI"), LIBRARY: ("a cell and a block", ">BBII")}
+PLACES = {CELL: ">BBI", LIBRARY: ">BBII"}
+STORED = os.path.join(os.path.dirname(os.path.abspath(__file__)), "stored")
 
 
-class Bad(Exception):
-    pass
+def answer_bytes(case):
+    first, *lines = case.lines
+    word, *fields = first.split(" ")
+    if word == "no":
+        return struct.pack(PLACES[case.job], 0, *map(int, fields))
+    length, count, greatest = fields
+    return struct.pack(">BIIQ", 1, int(length), int(count), int(greatest, 16)) + bytes.fromhex("".join(lines))
 
 
-def refused_bytes(job, fields, lines):
-    words, layout = PLACES[job]
-    if len(fields) != len(layout) - 1 or len(lines) != 1:
-        raise Bad(f"`no` of a {job} wants a number, {words}, and no further line")
-    return struct.pack(layout, 0, *map(int, fields[1:]))
+def packed(case):
+    given, known = JOBS[case.job] + case.given, answer_bytes(case)
+    return struct.pack(">I", len(given)) + given + struct.pack(">I", len(known)) + known
 
 
-def accepted_bytes(job, fields, lines):
-    if len(fields) != 4 or len(lines) < 2:
-        raise Bad("`ok` wants a length, an entry count and error bits, then the stream")
-    length, count, greatest = int(fields[1]), int(fields[2]), int(fields[3], 16)
-    stream, entries = bytes.fromhex(lines[1]), [bytes.fromhex(e) for e in lines[2:]]
-    if len(stream) != length or len(entries) != count or any(len(e) != ENTRY[job] for e in entries):
-        raise Bad("the stream or the entries are not as long as the first line says")
-    return struct.pack(">BIIQ", 1, length, count, greatest) + stream + b"".join(entries)
+def pack(cases):
+    """The pack, and how many cases are in it."""
+    answered = [packed(case) for case in cases if not no_answer(case.job, case.given)]
+    return b"".join(answered), len(answered)
 
 
-def packed(line):
-    """The bytes of a case, or None where the program gives no answer."""
-    _, job, given, printed = case_of(line)
-    given = b"" if given == "-" else bytes.fromhex(given)
-    if len(given) < SHORTEST or (job == CELL and len(given) - SHORTEST > LONGEST_SHEET):
-        return None
-    lines = printed.split("|")
-    first = lines[0].split(" ")
-    if first[0] not in ("ok", "no"):
-        raise Bad(f"an answer starts with `ok` or `no`, not `{first[0]}`")
-    known = (accepted_bytes if first[0] == "ok" else refused_bytes)(job, first, lines)
-    return struct.pack(">I", 1 + len(given)) + JOBS[job] + given + struct.pack(">I", len(known)) + known
+def all_cases():
+    stored = [case for name in ("cells", "libraries") for case in read_cases(os.path.join(STORED, f"{name}.txt.xz"))]
+    return stored + [case for _, case in own_cases.cases()]
 
 
-def pack(path):
-    """The packed cases of a file, and how many were left out."""
-    cases, left_out = [], 0
-    with open(path, "rb") as f:
-        for number, line in enumerate(f, 1):
-            if not line.strip() or line.startswith(b"#"):
-                continue
-            try:
-                case = packed(line.rstrip(b"\n").decode("ascii"))
-            except (Bad, ValueError, struct.error) as fault:
-                raise Bad(f"{path}, line {number}: {fault}") from None
-            if case is None:
-                left_out += 1
-            else:
-                cases.append(case)
-    return cases, left_out
+def split(words):
+    """(where to write, the other words)"""
+    if TO not in words:
+        return files.STANDARD, words
+    at = words.index(TO)
+    if len(words) == at + 1 or TO in words[at + 1:]:
+        raise called.Wrong(f"one file follows {TO}")
+    return words[at + 1], words[:at] + words[at + 2:]
 
 
-def main():
-    arguments = argparse.ArgumentParser(description="Packs stored cases for a program's standard input.")
-    arguments.add_argument("cases", nargs="+", help="files of cases")
-    arguments.add_argument("-o", metavar="PACK", help="where to write; else to standard output")
-    given = arguments.parse_args()
-    total, missing = [], 0
-    try:
-        for path in given.cases:
-            cases, left_out = pack(path)
-            total += cases
-            missing += left_out
-        with open(given.o, "wb") if given.o else sys.stdout.buffer as out:
-            out.write(b"".join(total))
-    except (Bad, OSError) as fault:
-        sys.exit(f"pack_cases.py: {plain(fault)}")
-    print(f"{len(total)} cases packed, {missing} left out: short or long", file=sys.stderr)
+def main(words):
+    target, paths = split(words)
+    if paths == [ALL]:
+        cases = all_cases()
+    else:
+        called.no_option(paths)
+        if not paths:
+            raise called.Wrong(f"it takes files of cases, or {ALL}")
+        cases = [case for path in paths for case in read_cases(path)]
+    data, count = pack(cases)
+    files.write_whole(target, data)
+    print(f"{count} cases packed, {len(cases) - count} left out: short or long", file=sys.stderr)
 
 
 if __name__ == "__main__":
-    main()
+    called.run(main, __doc__)

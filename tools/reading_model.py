@@ -8,14 +8,17 @@ exact fractions.
 
     reading_model.py [STRUCTURE]    reads the bytes of one structure, from a file or standard input, and prints `ok`,
                                     the sheet's length and the sheet in hex, or `no`, number and block
+
+Exit status: 0 with a sheet or a refusal, 1 where the file cannot be read, 2 where it was called wrongly.
 """
 import struct
-import sys
 from fractions import Fraction
 
+import called
 import model
-import sheet as form
-import stream_to_text as stream
+from ravenvanity import files
+from ravenvanity import sheet as form
+from ravenvanity import show as stream
 
 NO_RECORD, NOT_OF_GRAMMAR = "noRecord", "notOfGrammar"
 KINDS = {"BOUNDARY": form.POLYGON, "NODE": form.NODE, "PATH": form.PATH, "TEXT": form.TEXT, "SREF": form.REFERENCE, "AREF": form.REFERENCE}
@@ -252,21 +255,13 @@ def grammar_fault(data):
     return None
 
 
-def main():
-    form.end_with_the_pipe()
-    if len(sys.argv) > 2 or sys.argv[1:2] and sys.argv[1].startswith("-"):
-        sys.exit(__doc__.strip().splitlines()[-2].strip())
-    try:
-        if len(sys.argv) == 2:
-            with open(sys.argv[1], "rb") as f:
-                data = f.read()
-        else:
-            data = sys.stdin.buffer.read()
-    except OSError as fault:
-        sys.exit(f"reading_model.py: {form.plain(fault)}")
-    answer = read(data)
+def main(words):
+    called.no_option(words)
+    if len(words) > 1:
+        raise called.Wrong("it takes one structure")
+    answer = read(files.read_input(words[0] if words else files.STANDARD))
     print(f"ok {len(answer[1])} {answer[1].hex()}" if answer[0] == "ok" else "no {} {}".format(*answer[1:]))
 
 
 if __name__ == "__main__":
-    main()
+    called.run(main, __doc__)

@@ -3,6 +3,7 @@
 //! proved writer from the sheet to the same. gdsr sorts cells and entries by name; the names stand in that order.
 #[allow(dead_code)]
 mod answer;
+mod call;
 #[allow(dead_code)]
 mod layout;
 #[allow(dead_code)]
@@ -140,6 +141,7 @@ fn compare(what: &str, given: &Given) {
 }
 
 fn main() {
+    call::no_words("libraries");
     let mut random = Random::of_case(1, 0);
     println!("milliseconds of one call: the median of {ROUNDS} rounds, with the least and the greatest");
     compare("polygons of 5 points, doubles off the grid", &shared(1_000, |_| small_polygon(&mut random, off_grid)));

@@ -1,6 +1,7 @@
 //! gdsr against the proved writer, or against stored cases: see README.md.
 #[cfg_attr(not(proved), allow(dead_code))]
 mod answer;
+mod call;
 #[cfg(proved)]
 mod compare;
 #[cfg_attr(not(proved), allow(dead_code))]
@@ -23,41 +24,57 @@ mod stored;
 use input::Job;
 
 #[cfg(proved)]
-fn generated(words: &[String]) -> bool {
-    let number = |at: usize, other: u64| words.get(at).map_or(other, |word| word.parse().unwrap_or_else(|_| usage()));
-    let seed = number(1, 1);
-    let one = number(2, 0)..number(2, 0) + 1;
-    match words.first().map(String::as_str) {
-        Some("--cases") => compare::run(Job::Cell, seed, 0..number(2, 100_000), false),
-        Some("--case") => compare::run(Job::Cell, seed, one, false),
-        Some("--any-pair") => compare::run(Job::Cell, seed, 0..number(2, 100_000), true),
-        Some("--any-pair-case") => compare::run(Job::Cell, seed, one, true),
-        Some("--libraries") => compare::run(Job::Library, seed, 0..number(2, 20_000), false),
-        Some("--library") => compare::run(Job::Library, seed, one, false),
-        Some("--long") => compare::run_long(),
-        _ => usage(),
+fn generated(option: &str, words: &[String]) -> bool {
+    let numbers: Vec<u64> = words.iter().map(|word| word.parse().unwrap_or_else(|_| wrong())).collect();
+    let many = |job, count, any_pair| match numbers[..] {
+        [] => compare::run(job, 1, 0..count, any_pair),
+        [seed] => compare::run(job, seed, 0..count, any_pair),
+        [seed, count] if count > 0 => compare::run(job, seed, 0..count, any_pair),
+        _ => wrong(),
+    };
+    let one = |job, any_pair| match numbers[..] {
+        [seed, index] if index < u64::MAX => compare::run(job, seed, index..index + 1, any_pair),
+        _ => wrong(),
+    };
+    match option {
+        "--cases" => many(Job::Cell, 100_000, false),
+        "--case" => one(Job::Cell, false),
+        "--any-pair" => many(Job::Cell, 100_000, true),
+        "--any-pair-case" => one(Job::Cell, true),
+        "--libraries" => many(Job::Library, 20_000, false),
+        "--library" => one(Job::Library, false),
+        "--long" if words.is_empty() => compare::run_long(),
+        _ => wrong(),
     }
 }
 
 #[cfg(not(proved))]
-fn generated(_: &[String]) -> bool {
-    usage()
+fn generated(_: &str, _: &[String]) -> bool {
+    wrong()
 }
 
-fn usage() -> ! {
-    eprintln!("usage: oracle --stored FILE");
-    eprintln!("with the static library: oracle --cases [SEED [COUNT]]     oracle --case SEED INDEX");
-    eprintln!("                         oracle --any-pair [SEED [COUNT]]  oracle --any-pair-case SEED INDEX");
-    eprintln!("                         oracle --libraries [SEED [COUNT]] oracle --library SEED INDEX");
-    eprintln!("                         oracle --long");
+const USAGE: &str = "usage: oracle --stored FILE
+with the static library: oracle --cases [SEED [COUNT]]      oracle --case SEED INDEX
+                         oracle --any-pair [SEED [COUNT]]   oracle --any-pair-case SEED INDEX
+                         oracle --libraries [SEED [COUNT]]  oracle --library SEED INDEX
+                         oracle --long
+COUNT is 1 or more. Exit status: 0 where all agree, 1 where something differs or FILE has no cases, 2 where it was called wrongly.";
+
+fn wrong() -> ! {
+    eprintln!("{USAGE}");
     std::process::exit(2)
 }
 
 fn main() {
-    let words: Vec<String> = std::env::args().skip(1).collect();
-    let good = match words.first().map(String::as_str) {
-        Some("--stored") if words.len() == 2 => stored::run(&words[1], false) && stored::run(&words[1], true),
-        _ => generated(&words),
+    let words = call::words();
+    let Some((option, rest)) = words.split_first() else { wrong() };
+    let good = match (option.as_str(), rest) {
+        ("-h" | "--help", []) => {
+            println!("{USAGE}");
+            true
+        }
+        ("--stored", [path]) => stored::run(path, false) && stored::run(path, true),
+        (option, rest) => generated(option, rest),
     };
     std::process::exit(i32::from(!good));
 }

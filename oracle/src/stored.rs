@@ -90,7 +90,7 @@ impl Counts {
             Expected::Gdsr(answer) | Expected::Added(answer) => answer,
             Expected::NoCounterpart { block, why, .. } => {
                 self.not_compared += 1;
-                println!("{name}: not compared, block {block}: {why}; stored {}", &stored[..stored.len().min(40)]);
+                println!("{name}: not compared, block {block}: {why}; stored {}", stored.get(..40).unwrap_or(stored));
                 return;
             }
         };
@@ -140,12 +140,21 @@ pub fn run(path: &str, any_pair: bool) -> bool {
         }
     };
     let mut counts = Counts::default();
+    let mut cases = 0;
     for (at, line) in text.lines().enumerate() {
         let given = line.trim_end();
-        if !given.is_empty() && !given.starts_with('#') && counts.take(given, any_pair).is_none() {
+        if given.is_empty() || given.starts_with('#') {
+            continue;
+        }
+        if counts.take(given, any_pair).is_none() {
             eprintln!("oracle: {path}, line {}: no stored case of a cell or a library", at + 1);
             return false;
         }
+        cases += 1;
+    }
+    if cases == 0 {
+        eprintln!("oracle: {path}: there is no case in it");
+        return false;
     }
     println!("stored cases, arrays with {} sines and cosines", if any_pair { "any" } else { "gdsr's own" });
     counts.print();

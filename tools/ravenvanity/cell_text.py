@@ -1,30 +1,4 @@
-"""The text form of a cell, read and written. A convenience, outside the proof.
-
-One line for one thing; `#` starts a comment; blank lines and indents mean nothing.
-
-    cell "NAME"                          first
-    stamps zero                          or twelve numbers: two of year month day hour minute second; missing: zero
-    polygon LAYER TYPE                   then its points
-    node LAYER TYPE                      then its points
-    path LAYER TYPE                      then pathtype, width, begin, end where present, and its points
-    text LAYER TYPE "STRING"             then at, and vertical, horizontal, reflection, magnification, degrees
-    reference "NAME" [COLUMNS ROWS]      then at, and column, row, reflection, magnification, degrees, sine, cosine
-
-    point X Y          at X Y            column X Y         row X Y           (column and row: an array's spacings)
-    pathtype 0|1|2     width C           begin C            end C             (missing: absent)
-    vertical 0|1|2     horizontal 0|1|2  reflection 0|1                       (missing: 0)
-    magnification D    degrees D                                              (missing: 1, 0)
-    sine D             cosine D                                               (missing: 0, 1; below)
-    property ATTRIBUTE "VALUE"
-
-A coordinate is VALUE@UNIT. A VALUE of digits alone is an integer of 32 bits, any other a double: 3@1e-9, 3.0@1e-9.
-A double D is a decimal (the nearest double is taken), inf, -inf, nan, or its bits: 0x and 16 hex digits. `absent` stands
-for a path length or a whole spacing that is not there. In a string, \\" \\\\ and \\xHH stand for a byte, any other
-character for its UTF-8 bytes.
-
-An array, that is a reference of other than 1 1, whose degrees are not 0 must have both `sine` and `cosine`: they stand on
-the sheet, since the last bit of a machine's own is not fixed, and two shops must send the same two doubles.
-"""
+"""The text form of a cell, read and written; docs/COMMAND.md describes it."""
 import functools
 import math
 import re

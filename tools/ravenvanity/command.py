@@ -109,7 +109,7 @@ def measured(given, kind):
 
 
 def write_run(given):
-    kind = CELL if given.what == CELL else LIBRARY
+    kind = given.what
     outputs_apart(given.input, given.o, given.report)
     no_terminal(given.o, "a structure" if kind == CELL else "a library file")
     found = measured(given, kind)
@@ -119,6 +119,8 @@ def write_run(given):
     stream, report = job.written(length, entries)
     files.write_all([(given.o, stream)] + [(given.report, report)] * (given.report is not None))
     words = write.accepted_words(length, entries, greatest)
+    if given.quiet:
+        return DONE
     if files.STANDARD in (given.o, given.report):
         say(words)
     else:
@@ -249,6 +251,9 @@ class Parser(argparse.ArgumentParser):
         super().__init__(allow_abbrev=False, **words)
         self._negative_number_matcher = re.compile(r"-(\d|\.\d|inf$)")
 
+    def print_help(self, file=None):
+        print(self.format_help(), end="", file=file)  # argparse's own is silent on a full disk
+
     def error(self, message):
         say(f"{message} (`{self.prog} --help` says how it is called)")
         sys.exit(WRONG_USE)
@@ -282,6 +287,7 @@ def writer(subcommands, name, what, length):
     call_options(parser)
     parser.add_argument("-o", metavar="FILE", required=True, help="where to write it")
     parser.add_argument("--report", metavar="FILE", help=f"where to write the report's entries, {length} bytes each")
+    parser.add_argument("-q", "--quiet", action="store_true", help="say nothing where it is accepted")
     parser.set_defaults(run=write_run, what=what)
 
 
@@ -375,6 +381,9 @@ def flushed(status):
 def main():
     """The command; a closed pipe, Ctrl-C or a signal ends it without a trace, and no file is left half made."""
     progress.shown = True
+    if sys.stdout is None:
+        say("standard output is closed")
+        os._exit(WRONG_USE)
     signal.signal(signal.SIGTERM, lambda *_: sys.exit(TERMINATED))
     try:
         status = run(sys.argv[1:])

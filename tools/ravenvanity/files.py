@@ -1,5 +1,6 @@
 """Files that are read, and files that are written whole or not at all."""
 import contextlib
+import errno
 import os
 import signal
 import sys
@@ -28,6 +29,8 @@ def read_input(path):
     """A file's bytes; `-` is standard input."""
     try:
         if path == STANDARD:
+            if sys.stdin is None:
+                raise OSError(errno.EBADF, "it is closed")
             return sys.stdin.buffer.read()
         with open(path, "rb") as f:
             return f.read()

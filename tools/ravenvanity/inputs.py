@@ -78,7 +78,7 @@ def is_sheet(data):
 
 def decoded(data, name):
     try:
-        return data.decode("utf-8")
+        return data.decode("utf-8-sig")  # some editors put a mark before the first line
     except UnicodeDecodeError as fault:
         line = data.count(b"\n", 0, fault.start) + 1
         raise Unreadable(f"{name}, line {line}: byte 0x{data[fault.start]:02x} is not UTF-8") from None

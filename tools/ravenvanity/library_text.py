@@ -1,13 +1,4 @@
-"""The text form of a library, read and written. A convenience, outside the proof.
-
-    library "NAME"                       first; the name may be any bytes
-    user_unit D                          must be there, before the first cell: UNITS' first real, written as it is
-    stamps zero                          or twelve numbers, as in a cell, before the first cell; missing: zero
-    cell "NAME"                          then its lines, as tools/cell_text.py has them; the next `cell` starts the next cell
-
-D is a double, as there. Viewers take the first real of UNITS for the database unit, told in user units: with a database
-unit of 1e-9 a user unit of 0.001 has them show micrometres (docs/VIEWERS.md).
-"""
+"""The text form of a library, read and written; docs/COMMAND.md describes it."""
 from . import sheet as form
 from .cell_text import Bad, CellReader, Wrong, a_double, arity, cell_lines, demanded, double_text, quoted, read_lines, shown, stamp_numbers, stamps_line, string
 

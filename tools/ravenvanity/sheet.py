@@ -1,4 +1,4 @@
-"""The cell sheet of document 01 ("Input") and the library sheet of document 02, request 1: their form, read and written. A convenience, outside the proof.
+"""The cell sheet of document 01 ("Input") and the library sheet of document 02, request 1: their form, read and written. docs/FORMAT.md has them byte by byte.
 
 A cell is a name, twelve stamp numbers and elements; a library is a name, a user unit, twelve stamp numbers and cells.
 Doubles are kept as 64-bit patterns, so that a NaN keeps its bits and a sheet that is read and written again is the same

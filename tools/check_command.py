@@ -1,0 +1,360 @@
+#!/usr/bin/env python3
+"""Tries the command `ravenvanity` as its users call it. A convenience, outside the proof.
+
+    check_command.py CASES [CASES ...]      after `./run`, or `rt staticlib ravenvanity`
+
+Wrong uses and bad files get one message and their status; files are written whole or not at all, and a refusal leaves
+them as they were; cells up to the writer's limit are written; texts and sheets, the program's input, streams, reports,
+pictures, bounds and surveys go through. Of the refused cells and libraries in files of cases (tools/case_files.py has
+their form) each refusal about a coordinate must name the coordinate. The last line counts; the exit status is 0 if
+nothing was wrong.
+"""
+import contextlib
+import io
+import os
+import random
+import stat
+import subprocess
+import tempfile
+import xml.etree.ElementTree
+
+import called
+import case_files
+import conversions
+import model
+from ravenvanity import again, cell_text, progress, proved, write
+from ravenvanity import sheet as form
+
+ROOT = os.path.dirname(os.path.dirname(os.path.abspath(__file__)))
+COMMAND = os.path.join(ROOT, "ravenvanity")
+SAMPLES = os.path.join(ROOT, "tools", "samples")
+CALL, CALL_1 = "--policy nearest --unit 1e-9", "--policy nearest --unit 1"
+ROW = "001c050200000000000000000000000000000000000000000000000000060606410000040b000006120642000008130200040001001c100300000001000000000000002d0000000000000001000000000004110000040700"
+ROW_ENTRY = "0000000005070000000000000440454000000000000000002d4004000000000000"
+TURNED = 'cell "A"\nreference "B" 3 1\n  at 0@1 0@1\n  column 10@1 0@1\n  degrees {}\n'
+
+
+class Count:
+    def __init__(self):
+        self.runs = self.refusals = self.found = self.wrong = 0
+
+    def fail(self, what):
+        self.wrong += 1
+        print(what)
+
+    def hold(self, what, found, wanted):
+        if found != wanted:
+            self.fail(f"{what}: {str(found)[:200]!r}, not {str(wanted)[:200]!r}")
+
+
+class Folder:
+    """A folder of files, in which the command is run."""
+
+    def __init__(self, path, count):
+        self.path, self.count = path, count
+
+    def put(self, name, content):
+        with open(os.path.join(self.path, name), "wb") as f:
+            f.write(content if isinstance(content, bytes) else content.encode())
+
+    def get(self, name):
+        with open(os.path.join(self.path, name), "rb") as f:
+            return f.read()
+
+    def ran(self, words, given=b"", command=COMMAND):
+        self.count.runs += 1
+        return subprocess.run([command, *(words.split(" ") if isinstance(words, str) else words)], cwd=self.path, input=given, capture_output=True)
+
+    def says(self, words, status, error="", output=None, given=b""):
+        """Runs it; one message, or none, that has these words, and nothing but the output that is wanted."""
+        done = self.ran(words, given)
+        lines = done.stderr.decode().splitlines()
+        shown = words if isinstance(words, str) else " ".join(words)
+        self.count.hold(f"{shown[:80]}: status", done.returncode, status)
+        if error == "" and lines or error and (error not in done.stderr.decode() or not lines[0].startswith("ravenvanity: ")):
+            self.count.fail(f"{shown[:80]}: it says {lines[:3]}, not {error!r}")
+        if status == 2 and len(lines) != 1:
+            self.count.fail(f"{shown[:80]}: {len(lines)} lines for one mistake: {lines[:4]}")
+        if output is not None:
+            self.count.hold(f"{shown[:80]}: output", done.stdout, output if isinstance(output, bytes) else output.encode())
+        return done
+
+
+# words, and what the message has: status 2
+WRONG_USES = (
+    ("", "COMMAND"), ("foo", "foo"), ("--foo", "COMMAND"), ("write", "INPUT, --policy, --unit, -o"), ("write a.cell", "--policy, --unit, -o"), (f"write a.cell {CALL}", "-o"),
+    ("write a.cell --policy foo --unit 1 -o x", "not foo"), ("write a.cell --policy 256 --unit 1 -o x", "255"), ("write a.cell --policy -1 --unit 1 -o x", "not -1"),
+    ("write a.cell --policy 0 --unit x -o x", "the database unit"), ("write a.cell --policy 0 --unit 1e999 -o x", "beyond the doubles"), ("write a.cell --policy 0 --unit 0x12 -o x", "the database unit"),
+    (f"write a.cell b.cell {CALL} -o x", "b.cell"), (f"write a.cell {CALL} -o x --pol 1", "--pol"), (f"write missing {CALL} -o x", "missing: No such file"), (f"write . {CALL} -o x", ".: Is a directory"),
+    (f"write a.cell {CALL_1} -o missing/x", "missing/x: No such file"), (f"write a.cell {CALL_1} -o .", ".: Is a directory"), (f"write a.cell {CALL_1} -o /dev/full", "/dev/full: No space"),
+    (f"write a.cell {CALL_1} -o x --report /dev/full", "/dev/full: No space"), (f"write a.cell {CALL} -o x --report x", "both outputs"), (f"write a.cell {CALL} -o - --report -", "both outputs"),
+    (f"write a.cell {CALL} -o ./a.cell", "would be lost"), (f"write a.cell {CALL} -o x --report a.cell", "would be lost"), ("sheet a.cell -o a.cell", "would be lost"), ("draw a.str -o a.str", "would be lost"),
+    (f"library missing {CALL} -o x", "No such file"), ("library a.library -o x", "--policy, --unit"), ("measure a.cell --policy x --unit 1", "not x"), (f"measure missing {CALL}", "No such file"),
+    ("sheet", "INPUT"), ("sheet a.cell --policy 0", "go together"), ("sheet a.cell --unit 1", "go together"), ("sheet a.cell --policy x --unit 1", "not x"), ("sheet missing", "No such file"),
+    ("sheet a.cell --hex -o /dev/full", "/dev/full: No space"), ("show", "--report FILE"), ("show - --report -", "standard input"), ("show missing", "No such file"), ("show a.str --report missing", "No such file"),
+    ("draw", "INPUT"), ("draw missing", "No such file"), ("draw a.str -o missing/x", "missing/x"), ("refusal x", "not x"), ("refusal 99", "no refusal 99"), ("refusal 0", "no refusal 0"), ("refusal 18 x", "not x"),
+    ("refusal 18 -1", "not -1"), ("refusal 18 0 1 2", "a block"), ("prepare x", "x"),
+    ("bounds", "LOWER, UPPER"), ("bounds 0 --unit 1 --policy 0", "UPPER"), ("bounds 0 0 0 --unit 1 --policy 0", "0"), ("bounds 0 0 --policy 0", "--unit"), ("bounds 0 0 --unit 1", "--policy"),
+    ("bounds 0 0 --unit", "--unit"), ("bounds 0 0 --unit 1 --policy foo", "not foo"), ("bounds 0 0 --unit 1 --policy " + "9" * 5000, "255"), ("bounds x 0 --unit 1 --policy 0", "the lower end"),
+    ("bounds 0 1e999 --unit 1 --policy 0", "beyond the doubles"), ("bounds 0 0 --unit 0x12 --policy 0", "the database unit"),
+    ("survey", "PITCH, N"), ("survey 1 --unit 1 --policy 0", "N"), ("survey x 1 --unit 1 --policy 0", "the pitch"), ("survey 1e999 1 --unit 1 --policy 0", "beyond the doubles"),
+    ("survey 1 1.5 --unit 1 --policy 0", "not 1.5"), ("survey 1 -1 --unit 1 --policy 0", "not -1"), ("survey 1 4294967296 --unit 1 --policy 0", "4294967295"), ("survey 1 x --unit 1 --policy 0", "the number of places"),
+)
+
+# what is refused or cannot be read: status 1
+REFUSED = (
+    (f"write empty {CALL} -o x", "empty, line 1: there is no `cell` line"), (f"write bad.cell {CALL} -o x", "bad.cell, line 2"), (f"write latin.cell {CALL} -o x", "latin.cell, line 2: byte 0xb5 is not UTF-8"),
+    (f"write a.library {CALL} -o x", "`ravenvanity library` writes"), (f"library a.cell {CALL} -o x", "a.cell, line 2: the first line is `library`"), (f"write odd.hex {CALL} -o x", "odd number of hex digits"),
+    (f"write empty --as-sheet {CALL} -o x", "refusal 4: "), (f"library empty --as-sheet {CALL} -o x", "refusal 23, outside a cell: "), (f"write library.sheet {CALL} -o x", "`ravenvanity library` writes it"),
+    ("write a.cell --policy 4 --unit 1 -o x", "refusal 1: "), ("write a.cell --policy 0 --unit -1 -o x", "refusal 2: "), ("measure a.cell --policy 0 --unit nan", "refusal 2: "),
+    ("write grid.cell --policy strict --unit 1e-9 -o x", "refusal 18, block 3 (element 2, a node): a value is off the grid and the policy is strict\nravenvanity: looked at again, outside the proof: point 0, x, is 0.0005@1e-06, p 5e-10, p / d 0.5"),
+    ("library a.library --policy strict --unit 1e-9 -o x", 'refusal 18, cell 0 ("VIA"), block 2 (element 1, a node): '), ("library a.library --policy 0 --unit 1e-300 -o x", "refusal 24, outside a cell: "),
+    ("show empty", "byte 0"), ("show a.cell", "byte 2"), ("show a.sheet", "it may be a sheet"), ("show cut.str", "cut.str, byte 80: "), ("show a.str --report cut.str", "byte 4: report entry"), ("show --report cut.report", "33 bytes, 32 are left"),
+    ("draw empty", "byte 0"), ("draw a.gds --structure NO", "there is no structure"), ("draw none.gds", "no structure to draw"), ("sheet empty", "no `cell` line"), ("sheet cut.sheet", "cut.sheet, byte"),
+    ("sheet empty --program", "at least 9 bytes"), ("sheet turned.cell", "line 2: this array is turned by 30.0 degrees: give it the lines `sine` and `cosine`"), ("sheet one.cell", "stand together"),
+    ("sheet infinite.cell --machine-sines", "not finite"), ("bounds 1 0 --unit 1 --policy 0", "refusal 32: "), ("bounds inf 0 --unit 1 --policy 0", "refusal 17, the lower end: "),
+    ("bounds 0 -inf --unit 1 --policy 0", "refusal 17, the upper end: "), ("survey 1 0 --unit 1 --policy 0", "refusal 33: "), ("survey -inf 1 --unit 1 --policy 0", "refusal 17: the pitch is not finite"),
+)
+
+
+def prepared(folder):
+    """The files that the tables name."""
+    for name, sample in (("a.cell", "array.cell"), ("grid.cell", "grid.cell"), ("a.library", "two_cells.library")):
+        with open(os.path.join(SAMPLES, sample), "rb") as f:
+            folder.put(name, f.read())
+    folder.put("empty", b"")
+    folder.put("bad.cell", 'cell "A"\nblob 1 2\n')
+    folder.put("latin.cell", b'cell "A"\n# \xb5m\n')
+    folder.put("odd.hex", "000")
+    folder.put("turned.cell", TURNED.format("30"))
+    folder.put("infinite.cell", TURNED.format("inf"))
+    folder.put("one.cell", TURNED.format("30") + "  sine 0.5\n")
+    folder.put("a.str", bytes.fromhex(ROW))
+    folder.put("cut.str", bytes.fromhex(ROW)[:80])
+    folder.put("cut.report", bytes.fromhex(ROW_ENTRY)[:32])
+    for words in ("sheet a.cell -o a.sheet", "sheet a.library -o library.sheet", f"library a.library {CALL} -o a.gds"):
+        folder.says(words, 0)
+    folder.put("cut.sheet", folder.get("a.sheet")[:-1])
+    folder.put("none.library", 'library "L"\nuser_unit 1\n')
+    folder.says(f"library none.library {CALL} -o none.gds", 0)
+
+
+def faults(folder):
+    """No fault makes a file, or changes one."""
+    before = {name: folder.get(name) for name in os.listdir(folder.path)}
+    for words, error in WRONG_USES:
+        folder.says(words.split(" ") if words else [], 2, error)
+    for words, error in REFUSED:
+        folder.says(words, 1, error)
+    folder.count.hold("files after faults", {name: folder.get(name) for name in os.listdir(folder.path)}, before)
+
+
+def ways(folder):
+    """A cell from its text, from its sheet, as hex digits, through pipes: the same structure and report."""
+    text, sheet = folder.get("a.cell"), folder.get("a.sheet")
+    folder.put("a.hex", sheet.hex() + "\n")
+    line = "accepted: 88 bytes, 1 report entry, greatest error 2.5"
+    for name in ("a.cell", "a.sheet", "a.hex"):
+        folder.says(f"write {name} --policy nearest --unit 1 -o b.str --report b.report", 0, output=f"{line}\n")
+        folder.count.hold(f"{name}: structure", folder.get("b.str").hex(), ROW)
+        folder.count.hold(f"{name}: report", folder.get("b.report").hex(), ROW_ENTRY)
+    for given in (text, sheet):
+        folder.says("write - --policy 0 --unit 1 -o -", 0, line, bytes.fromhex(ROW), given)
+        folder.says("write - --policy 0 --unit 1 -o /dev/null --report -", 0, line, bytes.fromhex(ROW_ENTRY), given)
+    folder.says("write a.cell --policy 0 --unit 1 -o b.str --quiet", 0, output="")
+    folder.says("write a.cell --policy 0 --unit 1 -o - -q", 0, output=bytes.fromhex(ROW))
+    folder.says("measure a.cell --policy 0 --unit 1", 0, output=f"{line}\nto be lent: 88 bytes for the structure, 33 for the report\n")
+    for name in ("a.library", "library.sheet"):
+        folder.says(f"measure {name} {CALL}", 0, output="accepted: 538 bytes, 2 report entries, greatest error 1.5999999999996967e-09\nto be lent: 538 bytes for the library file, 74 for the report\n")
+        folder.says(f"library {name} {CALL} -o b.gds --report b.report", 0)
+        folder.count.hold(f"{name}: file", folder.get("b.gds"), folder.get("a.gds"))
+    os.symlink(COMMAND, os.path.join(folder.path, "linked"))
+    folder.count.hold("called by a link", folder.ran("sheet a.cell -o -", command="./linked").stdout, sheet)
+
+
+def there_and_back(folder):
+    """Text to sheet to text, of a cell, of a library and of the program's input."""
+    sheet = folder.get("a.sheet")
+    folder.says("sheet a.sheet -o b.cell", 0)
+    folder.says("sheet b.cell -o b.sheet", 0)
+    folder.count.hold("a cell there and back", folder.get("b.sheet"), sheet)
+    folder.says("sheet library.sheet -o b.library", 0)
+    folder.says("sheet b.library -o -", 0, output=folder.get("library.sheet"))
+    folder.says("sheet a.cell --hex", 0, output=sheet.hex() + "\n")
+    for name in ("a.cell", "a.sheet"):
+        folder.says(f"sheet {name} --policy 3 --unit 1 -o input", 0)
+        folder.count.hold("the program's input", folder.get("input"), bytes.fromhex("033ff0000000000000") + sheet)
+    done = folder.says("sheet input --program", 0)
+    folder.count.hold("the program's input as text", done.stdout, b"# policy 3 (strict), unit 1.0\n" + folder.get("b.cell"))
+
+
+def sines(folder):
+    """An array's sine and cosine: given, the machine's on request, exact at quarter turns."""
+    sine, cosine = map(cell_text.double_text, cell_text.machine_turn(form.bits_of(30.0)))
+    done = folder.says("sheet turned.cell --machine-sines -o b.sheet", 0, f"line 2: sine {sine} and cosine {cosine} of 30.0 degrees are this machine's; their last bit may differ")
+    folder.count.hold("machine's sines", len(done.stderr.splitlines()), 1)
+    for degrees, pair in ((90, (1.0, 0.0)), (180, (0.0, -1.0)), (270, (-1.0, 0.0)), (-90, (-1.0, 0.0)), (450, (1.0, 0.0))):
+        found = cell_text.machine_turn(form.bits_of(float(degrees)))
+        folder.count.hold(f"{degrees} degrees", tuple(map(form.double_of, found)), pair)
+    for text, right in ((TURNED.format("0"), True), (TURNED.format("-0.0"), True), (TURNED.format("90"), False), (TURNED.format("nan"), False),
+                        (TURNED.format("30").replace("3 1", "1 1"), True), (TURNED.format("30") + "  sine 0.5\n  cosine 0.8\n", True), (TURNED.format("0") + "  cosine 1\n", False)):
+        try:
+            cell_text.read_cell(text)
+            folder.count.hold(f"read: {text!r}", True, right)
+        except cell_text.Bad:
+            folder.count.hold(f"not read: {text!r}", False, right)
+
+
+def shown(folder):
+    """Streams and reports as text, and pictures."""
+    entry = "element 0 (reference): 4 values affected, worst column endpoint x: p 42.5, q 45, error 2.5\n"
+    folder.put("a.report", bytes.fromhex(ROW_ENTRY))
+    records = folder.says("show a.str", 0).stdout.decode()
+    folder.says("show a.str --report a.report", 0, output=records + entry)
+    folder.says("show --report a.report", 0, output=entry)
+    folder.says("show -", 0, output=records, given=ROW.encode())
+    folder.says("show -", 0, output=f"accepted: 88 bytes, 1 report entry, greatest error 2.5\n{records}{entry}", given=f"ok 88 1 4004000000000000\n{ROW}\n{ROW_ENTRY}\n".encode())
+    folder.says("show -", 0, output="refused: number 18, block 3 (`ravenvanity refusal 18 3` says what that means)\n", given=b"no 18 3\n")
+    folder.says(f"library a.library {CALL} -o b.gds --report b.report", 0)
+    done = folder.says("show b.gds --report b.report", 0)
+    folder.count.hold("a library's entries", done.stdout.decode().splitlines()[-1][:40], 'cell 1 ("TOP"), element 3 (reference): 2')
+    for words in ("draw a.str", "draw a.gds", "draw a.gds --structure VIA"):
+        picture = folder.says(words, 0, "outlines" if "str" in words and "structure" not in words else "").stdout
+        root = xml.etree.ElementTree.fromstring(picture.decode())
+        folder.count.hold(f"{words}: a picture", root.tag, "{http://www.w3.org/2000/svg}svg")
+    folder.says("draw a.gds -o b.svg", 0)
+    folder.says("refusal 18 3", 0)
+    folder.count.hold("refusals", len(folder.says("refusal", 0).stdout.splitlines()), 27)
+
+
+def large(folder):
+    """Cells at the writer's own limits, and one beyond."""
+    point = "  point 0.0123@1e-6 1.0457@1e-6\n"
+    folder.put("long.cell", 'cell "LONG"\npolygon 1 0\n' + 8191 * point)
+    folder.says(f"write long.cell {CALL} -o long.str", 0)
+    folder.count.hold("a polygon of 8,191 points", len(folder.get("long.str")), 65592)
+    folder.put("longer.cell", 'cell "LONG"\npolygon 1 0\n' + 8192 * point)
+    folder.says(f"write longer.cell {CALL} -o long.str", 1, "refusal 8, block 1 (element 0, a polygon)")
+    most = form.Cell(b"MOST", [0] * 12, [])
+    value = 16777216 - len(form.sheet_bytes(form.Cell(b"MOST", [0] * 12, [node_with([b"x" * 60000] * 279)]))) - 4
+    for more, status, error in ((0, 0, ""), (1, 1, "refusal 3: the sheet is over 16,777,216 bytes")):
+        sheet = form.sheet_bytes(most._replace(elements=[node_with([b"x" * 60000] * 279 + [b"x" * (value + more)])]))
+        folder.count.hold("the longest sheet", len(sheet), 16777216 + more)
+        folder.put("most.sheet", sheet)
+        folder.says(f"write most.sheet {CALL} -o most.str", status, error)
+
+
+def node_with(values):
+    point = form.Coordinate(form.INTEGER, 0, form.bits_of(1e-9))
+    return form.Shape(form.NODE, 1, 0, [(point, point)], [form.Property(1, value) for value in values])
+
+
+def ends(folder):
+    """A closed pipe and a full disk end the command without a trace; --help and --version."""
+    for words in ("refusal", "show long.str", "sheet long.cell --hex"):
+        done = subprocess.run(["bash", "-c", f'"{COMMAND}" {words} 2>&1 >/dev/null | cat; "{COMMAND}" {words} 2>closed | true; cat closed'], cwd=folder.path, capture_output=True)
+        folder.count.hold(f"{words} into a closed pipe", done.stdout, b"")
+    for words in ("refusal", "--help", "show a.str"):
+        done = subprocess.run(["bash", "-c", f'"{COMMAND}" {words} > /dev/full'], cwd=folder.path, capture_output=True)
+        folder.count.hold(f"{words} on a full disk", (done.returncode, done.stderr), (2, b"ravenvanity: standard output: No space left on device\n"))
+    for name in ("", "write ", "library ", "measure ", "show ", "draw ", "sheet ", "refusal ", "bounds ", "survey ", "prepare "):
+        folder.count.hold(f"{name}--help", folder.says(f"{name}--help", 0).stdout[:18], b"usage: ravenvanity")
+    folder.count.hold("--version", folder.says("--version", 0).stdout[64:], b"  libravenvanity.a\n")
+    folder.says("prepare", 0, output="")
+
+
+def replaced(folder):
+    """A file that is written again keeps its permissions, a link to it stays a link, and nothing is left beside it."""
+    folder.put("kept.str", b"before")
+    os.chmod(os.path.join(folder.path, "kept.str"), 0o640)
+    os.symlink("kept.str", os.path.join(folder.path, "kept.link"))
+    names = set(os.listdir(folder.path))
+    folder.says("write a.cell --policy 0 --unit 1 -o kept.link", 0)
+    folder.count.hold("through a link", folder.get("kept.str").hex(), ROW)
+    folder.count.hold("still a link", os.path.islink(os.path.join(folder.path, "kept.link")), True)
+    folder.count.hold("permissions", stat.S_IMODE(os.stat(os.path.join(folder.path, "kept.str")).st_mode), 0o640)
+    folder.says("write a.cell --policy 0 --unit 1 -o kept.str --report /dev/full", 2, "No space")
+    folder.count.hold("names", set(os.listdir(folder.path)), names)
+
+
+def progress_told(count):
+    """What takes longer says how far it is."""
+    said, before = io.StringIO(), (progress.shown, progress.due)
+    with contextlib.redirect_stderr(said):
+        progress.shown, progress.due = True, 0
+        cell_text.read_cell('cell "A"\n')
+    progress.shown, progress.due = before
+    count.hold("progress", said.getvalue().split(",")[0], "ravenvanity: reading the text")
+
+
+def row_of(policy, d, pitch, n):
+    """A survey's picture as the model has it, place by place."""
+    row = [conversions.placed(policy, d, pitch, i) for i in range(n)]
+    if not any(row):
+        return ["no place is disturbed"]
+    each = -(-n // 1024)
+    marks = "".join(".ox"[max(row[start:start + each])] for start in range(0, n, each))
+    lines = [f"{start * each:5}  {marks[start:start + 64]}" for start in range(0, len(marks), 64)]
+    return [f"a mark is {'one place' if each == 1 else f'{each} places'}: . clean, o due, x refused"] + lines
+
+
+def surveys(folder):
+    for policy, d, pitch, n in ((0, 1e-9, 2.5e-9, 12), (3, 1e-9, 1e-7, 1000), (0, 1e-9, 1e-6, 4096), (0, 6e307, 6e307, 4), (1, 1.0, -0.5, 70), (0, 1e-9, 1e-9, 1)):
+        done = folder.says(f"survey {pitch!r} {n} --unit {d!r} --policy {policy}", 0)
+        folder.count.hold(f"the row of {pitch!r}", done.stdout.decode().splitlines()[1:], row_of(policy, d, pitch, n))
+    folder.says("bounds 2.512e-6 2.518e-6 --unit 5e-9 --policy nearest", 0, output="least 502, greatest 504\n")
+    folder.says("bounds -2.5e-6 -.5e-6 --unit 1e-6 --policy floor", 0, output="least -3, greatest -1\n")
+
+
+def coordinates_found(cases, count):
+    """Of each stored refusal about a coordinate, looking again finds which, and of others it does not stumble."""
+    library = proved.load()
+    for name, job, given, lines in cases:
+        if not lines[0].startswith("no "):
+            continue
+        number, *place = map(int, lines[0].split(" ")[1:])
+        policy, d, sheet = model.call_of(given)
+        told = list((write.Library if job == case_files.LIBRARY else write.Cell)(library, policy, d, sheet).refused(number, place))
+        count.refusals += 1
+        if number in again.COORDINATES:
+            count.found += 1
+            if len(told) != 2:
+                count.fail(f"{name}: {lines[0]}, and which coordinate was not found")
+
+
+def found_at(count):
+    """A coordinate at fault is found where it is: one off the grid among many, of each field."""
+    library, r = proved.load(), random.Random(1)
+    for _ in range(200):
+        at, axis = r.randrange(40), r.randrange(2)
+        points = [[form.Coordinate(form.DOUBLE, form.bits_of(float(k)), form.bits_of(1.0)) for _ in "xy"] for k in range(40)]
+        points[at][axis] = form.Coordinate(form.DOUBLE, form.bits_of(at + 0.25), form.bits_of(1.0))
+        sheet = form.sheet_bytes(form.Cell(b"A", [0] * 12, [form.Shape(form.NODE, 1, 0, [tuple(p) for p in points], [])]))
+        told = list(write.Cell(library, 3, 1.0, sheet).refused(18, [1]))
+        count.hold("found at", told[1].split(" is ")[0], f"looked at again, outside the proof: point {at}, {'xy'[axis]},")
+
+
+def main(paths):
+    if not paths:
+        raise called.Wrong("it takes files of cases")
+    called.no_option(paths)
+    cases = [case for path in paths for case in case_files.read_cases(path)]
+    try:
+        proved.load()
+    except proved.Missing as missing:
+        raise called.Wrong(str(missing)) from None
+    count = Count()
+    with tempfile.TemporaryDirectory() as path:
+        folder = Folder(path, count)
+        prepared(folder)
+        for part in (faults, ways, there_and_back, sines, shown, large, ends, replaced, surveys):
+            part(folder)
+    progress_told(count)
+    coordinates_found(cases, count)
+    found_at(count)
+    print(f"{count.runs} runs of the command; {count.refusals} stored refusals told, {count.found} of them about a coordinate that was found; {count.wrong} wrong")
+    return int(count.wrong != 0)
+
+
+if __name__ == "__main__":
+    called.run(main, __doc__)
