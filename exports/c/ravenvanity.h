@@ -1,14 +1,15 @@
 /* The proved GDSII writer of cells and libraries, lengths within bounds, and the pitch survey: document 01 has the cell
  * sheet, the refusals and the report entry, document 02 the library sheet, the bounds and the survey (its requests 1, 11
  * and 12). docs/FORMAT.md has both sheets, what is written and the report entries byte by byte.
+ * ravenvanity_sheet.h makes sheets, and ravenvanity_report.h reads reports and tells refusals in words; neither is proved.
  *
  * No pointer may be NULL, not even with length 0; the sheet, the two buffers and the answers must not overlap.
  * Nothing else is asked of a caller: every sheet, number and length has an answer. Nothing is kept between calls, no
  * memory is taken, and threads may call at the same time.
  *
- * policy: 0 nearest, 1 floor, 2 ceiling, 3 strict. d: the database unit.
- * The two for cells return 0 where the cell is accepted, else the refusal's number, 1 to 22. All four answers are always
- * written:
+ * policy: one of enum ravenvanity_policy. d: the database unit.
+ * The two for cells return 0 where the cell is accepted, else the refusal's number, 1 to 22 of enum ravenvanity_refusal. All
+ * four answers are always written:
  *     accepted: *block = 0, *length and *entries of the structure and the report, *greatest error (0 if none)
  *     refused:  *block (0 if none), *length = 0, *entries = 0, *greatest = 0
  * The two for libraries return 0 or a number from 1 to 25, and have a fifth answer, the cell that is refused:
@@ -30,6 +31,53 @@ extern "C" {
 #define RAVENVANITY_NO_CELL 4294967295
 #define RAVENVANITY_MAX_SHEET 16777216
 #define RAVENVANITY_MAX_PLACES 65536
+
+enum ravenvanity_policy {
+    RAVENVANITY_NEAREST = 0,
+    RAVENVANITY_FLOOR = 1,
+    RAVENVANITY_CEILING = 2,
+    RAVENVANITY_STRICT = 3
+};
+
+/* Named as in crates/refusal. */
+enum ravenvanity_refusal {
+    RAVENVANITY_REFUSAL_POLICY = 1,
+    RAVENVANITY_REFUSAL_DATABASE_UNIT = 2,
+    RAVENVANITY_REFUSAL_SHEET_SIZE = 3,
+    RAVENVANITY_REFUSAL_PAIRS = 4,
+    RAVENVANITY_REFUSAL_FORM = 5,
+    RAVENVANITY_REFUSAL_STAMP = 6,
+    RAVENVANITY_REFUSAL_NAME = 7,
+    RAVENVANITY_REFUSAL_POINT_COUNT = 8,
+    RAVENVANITY_REFUSAL_LAYER_OR_TYPE = 9,
+    RAVENVANITY_REFUSAL_STRING_LENGTH = 10,
+    RAVENVANITY_REFUSAL_COLUMNS_OR_ROWS = 11,
+    RAVENVANITY_REFUSAL_SPACING = 12,
+    RAVENVANITY_REFUSAL_MAGNIFICATION = 13,
+    RAVENVANITY_REFUSAL_REAL = 14,
+    RAVENVANITY_REFUSAL_SINE_OR_COSINE = 15,
+    RAVENVANITY_REFUSAL_SOURCE_UNIT = 16,
+    RAVENVANITY_REFUSAL_NOT_FINITE = 17,
+    RAVENVANITY_REFUSAL_OFF_GRID = 18,
+    RAVENVANITY_REFUSAL_OUT_OF_RANGE = 19,
+    RAVENVANITY_REFUSAL_NOT_CLOSED = 20,
+    RAVENVANITY_REFUSAL_OUTPUT_SHORT = 21,
+    RAVENVANITY_REFUSAL_REPORT_SHORT = 22,
+    RAVENVANITY_REFUSAL_LIBRARY_FORM = 23,
+    RAVENVANITY_REFUSAL_LIBRARY_UNITS = 24,
+    RAVENVANITY_REFUSAL_LIBRARY_NAME = 25,
+    RAVENVANITY_REFUSAL_BOUNDS = 32,
+    RAVENVANITY_REFUSAL_SURVEY_COUNT = 33
+};
+
+/* The kinds of elements, on sheets and in report entries. */
+enum ravenvanity_kind {
+    RAVENVANITY_KIND_POLYGON = 1,
+    RAVENVANITY_KIND_PATH = 2,
+    RAVENVANITY_KIND_TEXT = 3,
+    RAVENVANITY_KIND_NODE = 4,
+    RAVENVANITY_KIND_REFERENCE = 5
+};
 
 /* What writing takes: a report of *entries * RAVENVANITY_ENTRY_LENGTH bytes and an output of *length are enough. */
 uint8_t ravenvanity_measure_cell(const uint8_t *sheet, size_t sheet_length,

@@ -1,7 +1,9 @@
 //! The proved GDSII writer of cells and libraries, lengths within bounds and the pitch survey, for Rust. Document 01 has the
 //! cell sheet, the refusals and the report entry, document 02 the library sheet, the bounds and the survey (its requests 1, 11
-//! and 12).
+//! and 12). docs/FORMAT.md has both sheets, what is written and the report entries byte by byte.
+//! `ravenvanity_sheet.rs` makes sheets, and `ravenvanity_report.rs` reads reports and tells refusals in words; neither is proved.
 //! The borrow checker sees to what the C interface asks: no null pointer and no overlap.
+#![allow(dead_code)] // a program uses what it needs of this
 
 /// The bytes of one report entry.
 pub const ENTRY_LENGTH: usize = 33;
@@ -9,17 +11,79 @@ pub const ENTRY_LENGTH: usize = 33;
 /// The bytes of one entry of a library's report: the cell's number in four, then the cell's own entry.
 pub const LIBRARY_ENTRY_LENGTH: usize = 37;
 
+/// The most bytes of a sheet.
+pub const MAX_SHEET: usize = 16_777_216;
+
+/// The most places of a pitch survey.
+pub const MAX_PLACES: u32 = 65_536;
+
 /// What stands for no cell where a library is refused outside its cells.
 const NO_CELL: usize = 4_294_967_295;
 
-/// The documents' number of a refusal, and the block it is about (0 if none).
+/// How values are brought to the grid. The functions take one of these or its number.
+#[derive(Clone, Copy, Debug, PartialEq, Eq)]
+#[repr(u8)]
+pub enum Policy {
+    Nearest = 0,
+    Floor = 1,
+    Ceiling = 2,
+    Strict = 3,
+}
+
+impl From<Policy> for u8 {
+    fn from(policy: Policy) -> u8 {
+        policy as u8
+    }
+}
+
+/// The numbers of refusals, named as in crates/refusal.
+pub mod refusal {
+    pub const POLICY: u8 = 1;
+    pub const DATABASE_UNIT: u8 = 2;
+    pub const SHEET_SIZE: u8 = 3;
+    pub const PAIRS: u8 = 4;
+    pub const FORM: u8 = 5;
+    pub const STAMP: u8 = 6;
+    pub const NAME: u8 = 7;
+    pub const POINT_COUNT: u8 = 8;
+    pub const LAYER_OR_TYPE: u8 = 9;
+    pub const STRING_LENGTH: u8 = 10;
+    pub const COLUMNS_OR_ROWS: u8 = 11;
+    pub const SPACING: u8 = 12;
+    pub const MAGNIFICATION: u8 = 13;
+    pub const REAL: u8 = 14;
+    pub const SINE_OR_COSINE: u8 = 15;
+    pub const SOURCE_UNIT: u8 = 16;
+    pub const NOT_FINITE: u8 = 17;
+    pub const OFF_GRID: u8 = 18;
+    pub const OUT_OF_RANGE: u8 = 19;
+    pub const NOT_CLOSED: u8 = 20;
+    pub const OUTPUT_SHORT: u8 = 21;
+    pub const REPORT_SHORT: u8 = 22;
+    pub const LIBRARY_FORM: u8 = 23;
+    pub const LIBRARY_UNITS: u8 = 24;
+    pub const LIBRARY_NAME: u8 = 25;
+    pub const BOUNDS: u8 = 32;
+    pub const SURVEY_COUNT: u8 = 33;
+}
+
+/// The kinds of elements, on sheets and in report entries.
+pub mod kind {
+    pub const POLYGON: u8 = 1;
+    pub const PATH: u8 = 2;
+    pub const TEXT: u8 = 3;
+    pub const NODE: u8 = 4;
+    pub const REFERENCE: u8 = 5;
+}
+
+/// A refusal's number, one of those in `refusal`, and the block it is about (0 if none).
 #[derive(Clone, Copy, Debug, PartialEq, Eq)]
 pub struct Refusal {
     pub number: u8,
     pub block: usize,
 }
 
-/// The documents' number of a library's refusal, and the cell, counted from 0, and block it is about: none and 0 outside a cell.
+/// The number of a library's refusal, and the cell, counted from 0, and block it is about: none and 0 outside a cell.
 #[derive(Clone, Copy, Debug, PartialEq, Eq)]
 pub struct LibraryRefusal {
     pub number: u8,
@@ -112,8 +176,9 @@ fn answer(number: u8, block: usize, accepted: Accepted) -> Result<Accepted, Refu
     if number == 0 { Ok(accepted) } else { Err(Refusal { number, block }) }
 }
 
-/// What writing the sheet's cell takes. The policy: 0 nearest, 1 floor, 2 ceiling, 3 strict.
-pub fn measure_cell(policy: u8, d: f64, sheet: &[u8]) -> Result<Accepted, Refusal> {
+/// What writing the sheet's cell takes.
+pub fn measure_cell(policy: impl Into<u8>, d: f64, sheet: &[u8]) -> Result<Accepted, Refusal> {
+    let policy = policy.into();
     let mut block = 0;
     let mut to = Accepted { length: 0, entries: 0, greatest: 0.0 };
     // SAFETY: each pointer is of a live reference or slice, with the slice's length, and none overlap.
@@ -134,7 +199,8 @@ pub fn measure_cell(policy: u8, d: f64, sheet: &[u8]) -> Result<Accepted, Refusa
 
 /// Writes the structure to the start of `out` and the entries to the start of `report`; the bytes after them stay, and
 /// in a refusal all bytes of both.
-pub fn write_cell(policy: u8, d: f64, sheet: &[u8], out: &mut [u8], report: &mut [u8]) -> Result<Accepted, Refusal> {
+pub fn write_cell(policy: impl Into<u8>, d: f64, sheet: &[u8], out: &mut [u8], report: &mut [u8]) -> Result<Accepted, Refusal> {
+    let policy = policy.into();
     let mut block = 0;
     let mut to = Accepted { length: 0, entries: 0, greatest: 0.0 };
     // SAFETY: as above; the two buffers are lent alone.
@@ -158,8 +224,8 @@ pub fn write_cell(policy: u8, d: f64, sheet: &[u8], out: &mut [u8], report: &mut
 }
 
 /// Measures, takes the memory, and writes: the structure, the entries and what they took.
-#[allow(dead_code)] // for users; the harness lends its own buffers
-pub fn written(policy: u8, d: f64, sheet: &[u8]) -> Result<(Vec<u8>, Vec<u8>, Accepted), Refusal> {
+pub fn written(policy: impl Into<u8>, d: f64, sheet: &[u8]) -> Result<(Vec<u8>, Vec<u8>, Accepted), Refusal> {
+    let policy = policy.into();
     let accepted = measure_cell(policy, d, sheet)?;
     let mut out = vec![0; accepted.length];
     let mut report = vec![0; accepted.entries * ENTRY_LENGTH];
@@ -175,7 +241,8 @@ fn library_answer(number: u8, place: [usize; 2], accepted: Accepted) -> Result<A
 
 /// What writing the library takes. Block 0 of its sheet holds the name, the user unit and the stamps, every further block is
 /// a cell sheet.
-pub fn measure_library(policy: u8, d: f64, sheet: &[u8]) -> Result<Accepted, LibraryRefusal> {
+pub fn measure_library(policy: impl Into<u8>, d: f64, sheet: &[u8]) -> Result<Accepted, LibraryRefusal> {
+    let policy = policy.into();
     let (mut cell, mut block) = (0, 0);
     let mut to = Accepted { length: 0, entries: 0, greatest: 0.0 };
     // SAFETY: each pointer is of a live reference or slice, with the slice's length, and none overlap.
@@ -197,7 +264,14 @@ pub fn measure_library(policy: u8, d: f64, sheet: &[u8]) -> Result<Accepted, Lib
 
 /// Writes the file, from HEADER to ENDLIB, to the start of `out` and the entries to the start of `report`; the bytes after them
 /// stay, and in a refusal all bytes of both.
-pub fn write_library(policy: u8, d: f64, sheet: &[u8], out: &mut [u8], report: &mut [u8]) -> Result<Accepted, LibraryRefusal> {
+pub fn write_library(
+    policy: impl Into<u8>,
+    d: f64,
+    sheet: &[u8],
+    out: &mut [u8],
+    report: &mut [u8],
+) -> Result<Accepted, LibraryRefusal> {
+    let policy = policy.into();
     let (mut cell, mut block) = (0, 0);
     let mut to = Accepted { length: 0, entries: 0, greatest: 0.0 };
     // SAFETY: as above; the two buffers are lent alone.
@@ -222,8 +296,8 @@ pub fn write_library(policy: u8, d: f64, sheet: &[u8], out: &mut [u8], report: &
 }
 
 /// Measures, takes the memory, and writes: the file, the entries and what they took.
-#[allow(dead_code)] // for users; the harness lends its own buffers
-pub fn library_written(policy: u8, d: f64, sheet: &[u8]) -> Result<(Vec<u8>, Vec<u8>, Accepted), LibraryRefusal> {
+pub fn library_written(policy: impl Into<u8>, d: f64, sheet: &[u8]) -> Result<(Vec<u8>, Vec<u8>, Accepted), LibraryRefusal> {
+    let policy = policy.into();
     let accepted = measure_library(policy, d, sheet)?;
     let mut out = vec![0; accepted.length];
     let mut report = vec![0; accepted.entries * LIBRARY_ENTRY_LENGTH];
@@ -234,8 +308,8 @@ pub fn library_written(policy: u8, d: f64, sheet: &[u8]) -> Result<(Vec<u8>, Vec
 /// The least and the greatest database value over all doubles from `lower` to `upper`, both included, in physical units.
 /// Both are the value of some double in the range, and no double in it is refused. Refusals: 1, 2, 17, 18, 19, and 32 where
 /// the lower end is above the upper or the policy is strict and the ends are not equal.
-#[allow(dead_code)] // for users; the harness compares cells and libraries
-pub fn convert_bounds(policy: u8, d: f64, lower: f64, upper: f64) -> Result<Range, Refusal> {
+pub fn convert_bounds(policy: impl Into<u8>, d: f64, lower: f64, upper: f64) -> Result<Range, Refusal> {
+    let policy = policy.into();
     let mut range = Range { least: 0, greatest: 0 };
     // SAFETY: both pointers are of live fields, which do not overlap.
     let number = unsafe { ravenvanity_convert_bounds(&mut range.least, &mut range.greatest, policy, d, lower, upper) };
@@ -244,8 +318,8 @@ pub fn convert_bounds(policy: u8, d: f64, lower: f64, upper: f64) -> Result<Rang
 
 /// How many places of a row a pitch disturbs: place i, from 0 to n - 1, is i times the pitch, one product of doubles. The
 /// three counts make n. Refusals: 1, 2, 33 where n is not 1 to 65,536, and 17 where the pitch is not finite.
-#[allow(dead_code)] // for users; the harness compares cells and libraries
-pub fn survey_pitch(policy: u8, d: f64, pitch: f64, n: u32) -> Result<Counts, Refusal> {
+pub fn survey_pitch(policy: impl Into<u8>, d: f64, pitch: f64, n: u32) -> Result<Counts, Refusal> {
+    let policy = policy.into();
     let mut counts = Counts { clean: 0, due: 0, refused: 0 };
     // SAFETY: the pointers are of live fields, which do not overlap.
     let number =
