@@ -90,7 +90,7 @@ WRONG_USES = (
     (f"write a.cell {CALL_1} -o x --report /dev/full", "/dev/full: No space"), (f"write a.cell {CALL} -o x --report x", "both outputs"), (f"write a.cell {CALL} -o - --report -", "both outputs"),
     (f"write a.cell {CALL} -o ./a.cell", "would be lost"), (f"write a.cell {CALL} -o x --report a.cell", "would be lost"), ("sheet a.cell -o a.cell", "would be lost"), ("draw a.str -o a.str", "would be lost"),
     (f"library missing {CALL} -o x", "No such file"), ("library a.library -o x", "--policy, --unit"), ("measure a.cell --policy x --unit 1", "not x"), (f"measure missing {CALL}", "No such file"),
-    ("sheet", "INPUT"), ("sheet a.cell --policy 0", "go together"), ("sheet a.cell --unit 1", "go together"), ("sheet a.cell --policy x --unit 1", "not x"), ("sheet missing", "No such file"),
+    ("sheet", "INPUT"), ("sheet a.cell --policy 0", "go together"), ("sheet a.cell --unit 1", "go together"), ("sheet a.cell --policy x --unit 1", "not x"), ("sheet missing", "No such file"), ("sheet a.cell --cell --library", "--library"),
     ("sheet a.cell --hex -o /dev/full", "/dev/full: No space"), ("show", "--report FILE"), ("show - --report -", "standard input"), ("show missing", "No such file"), ("show a.str --report missing", "No such file"),
     ("draw", "INPUT"), ("draw missing", "No such file"), ("draw a.str -o missing/x", "missing/x"), ("refusal x", "not x"), ("refusal 99", "no refusal 99"), ("refusal 0", "no refusal 0"), ("refusal 18 x", "not x"),
     ("refusal 18 -1", "not -1"), ("refusal 18 0 1 2", "a block"), ("prepare x", "x"),
@@ -111,7 +111,7 @@ REFUSED = (
     ("library a.library --policy strict --unit 1e-9 -o x", 'refusal 18, cell 0 ("VIA"), block 2 (element 1, a node): '), ("library a.library --policy 0 --unit 1e-300 -o x", "refusal 24, outside a cell: "),
     ("show empty", "byte 0"), ("show a.cell", "byte 2"), ("show a.sheet", "it may be a sheet"), ("show cut.str", "cut.str, byte 80: "), ("show a.str --report cut.str", "byte 4: report entry"), ("show --report cut.report", "33 bytes, 32 are left"),
     ("draw empty", "byte 0"), ("draw a.gds --structure NO", "there is no structure"), ("draw none.gds", "no structure to draw"), ("sheet empty", "no `cell` line"), ("sheet cut.sheet", "cut.sheet, byte"),
-    ("sheet empty --program", "at least 9 bytes"), ("sheet turned.cell", "line 2: this array is turned by 30.0 degrees: give it the lines `sine` and `cosine`"), ("sheet one.cell", "stand together"),
+    ("sheet a.library --cell", "`ravenvanity library` writes"), ("sheet a.cell --library", "first line is `library`"), ("sheet empty --program", "at least 9 bytes"), ("sheet turned.cell", "line 2: this array is turned by 30.0 degrees: give it the lines `sine` and `cosine`"), ("sheet one.cell", "stand together"),
     ("sheet infinite.cell --machine-sines", "not finite"), ("bounds 1 0 --unit 1 --policy 0", "refusal 32: "), ("bounds inf 0 --unit 1 --policy 0", "refusal 17, the lower end: "),
     ("bounds 0 -inf --unit 1 --policy 0", "refusal 17, the upper end: "), ("survey 1 0 --unit 1 --policy 0", "refusal 33: "), ("survey -inf 1 --unit 1 --policy 0", "refusal 17: the pitch is not finite"),
 )
@@ -193,6 +193,8 @@ def sines(folder):
     sine, cosine = map(cell_text.double_text, cell_text.machine_turn(form.bits_of(30.0)))
     done = folder.says("sheet turned.cell --machine-sines -o b.sheet", 0, f"line 2: sine {sine} and cosine {cosine} of 30.0 degrees are this machine's; their last bit may differ")
     folder.count.hold("machine's sines", len(done.stderr.splitlines()), 1)
+    folder.put("quarter.cell", TURNED.format("-90"))
+    folder.says("sheet quarter.cell --machine-sines -o b.sheet", 0)
     for degrees, pair in ((90, (1.0, 0.0)), (180, (0.0, -1.0)), (270, (-1.0, 0.0)), (-90, (-1.0, 0.0)), (450, (1.0, 0.0))):
         found = cell_text.machine_turn(form.bits_of(float(degrees)))
         folder.count.hold(f"{degrees} degrees", tuple(map(form.double_of, found)), pair)

@@ -231,10 +231,15 @@ def is_array(columns, rows):
     return (columns, rows) != (1, 1)
 
 
+def is_quarter(degrees):
+    """Whether these degrees have the same sine and cosine on all machines: 0, 1 and -1."""
+    return double_of(degrees) % 90 == 0
+
+
 def machine_turn(degrees):
-    """(sine, cosine), each as bits, as this machine has them; of quarter turns they are exact, and the same on all."""
+    """(sine, cosine), each as bits, as this machine has them."""
     x = double_of(degrees)
-    if x % 90 == 0:
+    if is_quarter(degrees):
         quarters = int(x // 90) % 4
         return bits_of((0.0, 1.0, 0.0, -1.0)[quarters]), bits_of((1.0, 0.0, -1.0, 0.0)[quarters])
     return bits_of(math.sin(math.radians(x))), bits_of(math.cos(math.radians(x)))
@@ -245,8 +250,9 @@ def demanded(line, degrees):
     if not math.isfinite(double_of(degrees)):
         raise Bad(line, "this array's degrees are not finite, and have no sine: give it the lines `sine` and `cosine`")
     sine, cosine = map(double_text, machine_turn(degrees))
+    doubt = "" if is_quarter(degrees) else ", whose last bit may differ on another machine"
     raise Bad(line, f"this array is turned by {double_text(degrees)} degrees: give it the lines `sine` and `cosine`, the two doubles that every shop "
-              f"is to use (here: sine {sine}, cosine {cosine}; --machine-sines takes these, whose last bit may differ on another machine)")
+              f"is to use (here: sine {sine}, cosine {cosine}; --machine-sines takes these{doubt})")
 
 
 def stamp_numbers(tokens):

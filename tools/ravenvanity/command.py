@@ -13,7 +13,7 @@ import struct
 import sys
 
 from . import bounds, draw, files, inputs, progress, proved, refusal, show, survey, write
-from .cell_text import demanded, double_text, machine_turn
+from .cell_text import demanded, double_text, is_quarter, machine_turn
 from .inputs import CELL, LIBRARY, Unreadable, Wrong
 from .sheet import double_of
 
@@ -40,7 +40,8 @@ class MachineSines:
     def __call__(self, line, degrees):
         if not math.isfinite(double_of(degrees)):
             demanded(line, degrees)
-        self.taken.append((line, degrees))
+        if not is_quarter(degrees):
+            self.taken.append((line, degrees))
         return machine_turn(degrees)
 
     def tell(self):
@@ -109,7 +110,7 @@ def measured(given, kind):
 
 
 def write_run(given):
-    kind = given.what
+    kind = given.kind
     outputs_apart(given.input, given.o, given.report)
     no_terminal(given.o, "a structure" if kind == CELL else "a library file")
     found = measured(given, kind)
@@ -129,7 +130,7 @@ def write_run(given):
 
 
 def measure_run(given):
-    found = measured(given, LIBRARY if given.library else None)
+    found = measured(given, given.kind)
     if found is None:
         return REFUSED
     job, length, entries, greatest = found
@@ -143,7 +144,7 @@ def sheet_run(given):
     if (given.policy is None) != (given.unit is None):
         raise Wrong("--policy and --unit go together")
     front = struct.pack(">Bd", *call_of(given)) if given.unit is not None else b""
-    kind = LIBRARY if given.library else None
+    kind = given.kind
     data = inputs.raw(files.read_input(given.input))
     if not front and (given.program or given.as_sheet or inputs.is_sheet(data)):
         text = "".join(f"{line}\n" for line in text_of(data, given, kind))
@@ -281,6 +282,12 @@ def input_options(parser, what):
     parser.add_argument("--machine-sines", action="store_true", help="turned arrays without sine and cosine get this machine's, whose last bit may differ on another")
 
 
+def kind_options(parser):
+    kinds = parser.add_mutually_exclusive_group()
+    kinds.add_argument("--cell", action="store_const", dest="kind", const=CELL, help="it is a cell; else its text, or the length of block 0, says what it is")
+    kinds.add_argument("--library", action="store_const", dest="kind", const=LIBRARY, help="it is a library")
+
+
 def writer(subcommands, name, what, length):
     parser = subcommands.add_parser(name, help=f"a {what} written as GDSII, with its report", description=f"Writes a {what}, with its report, or tells the refusal.", epilog=EPILOG)
     input_options(parser, f"the {what}: a sheet, as bytes or hex digits, or the text form")
@@ -288,14 +295,14 @@ def writer(subcommands, name, what, length):
     parser.add_argument("-o", metavar="FILE", required=True, help="where to write it")
     parser.add_argument("--report", metavar="FILE", help=f"where to write the report's entries, {length} bytes each")
     parser.add_argument("-q", "--quiet", action="store_true", help="say nothing where it is accepted")
-    parser.set_defaults(run=write_run, what=what)
+    parser.set_defaults(run=write_run, kind=what)
 
 
 def asking(subcommands):
     """Those that ask the proved library and write no file."""
     parser = subcommands.add_parser("measure", help="what writing a cell or a library takes", description="What writing takes, or the refusal.", epilog=EPILOG)
     input_options(parser, "a cell or a library: its sheet, as bytes or hex digits, or its text form")
-    parser.add_argument("--library", action="store_true", help="it is a library; else its text, or the length of block 0, says what it is")
+    kind_options(parser)
     call_options(parser)
     parser.set_defaults(run=measure_run)
     parser = subcommands.add_parser("bounds", help="where a length within bounds comes to lie", description="The least and the greatest database value of all doubles from LOWER to UPPER.", epilog=EPILOG)
@@ -323,7 +330,7 @@ def looking(subcommands):
     parser.set_defaults(run=draw_run)
     parser = subcommands.add_parser("sheet", help="text form to sheet, and back", description="Makes a sheet of a text form, or a text form of a sheet.", epilog=EPILOG)
     input_options(parser, "a text form, or a sheet, as bytes or hex digits")
-    parser.add_argument("--library", action="store_true", help="it is a library; else its text, or the length of block 0, says what it is")
+    kind_options(parser)
     parser.add_argument("--hex", action="store_true", help="write the sheet as hex digits")
     parser.add_argument("--program", action="store_true", help="the input is that of the program `structure`: policy and unit stand before the sheet")
     call_options(parser, required=False, more="; with both, what is written is the input of the program `structure`")
