@@ -1,5 +1,5 @@
 #!/bin/sh
-# Builds the examples and the tests of the sheet builders, runs them, and holds what they print to what is stored here.
+# Builds the examples and the tests, runs them, and holds what they print to what is stored here.
 #   exports/run.sh [c] [rust]      by default both
 # LIBRARY is the static library. If it is not set, it is target/staticlib/libravenvanity.a, which is built where it is not there.
 # EXPORTS_TARGET is where the programs go, by default target/exports.
@@ -76,7 +76,9 @@ done
 mkdir -p "$target"
 [ -f "$library" ] || build_library
 for language in "$@"; do
-    [ "$language" != c ] || try_headers
     hold example "$language" "$here/$language/stdout"
     hold sheet_test "$language" "$here/sheet_test.hex"
+    [ "$language" = c ] || continue
+    hold write_test c /dev/null
+    try_headers
 done

@@ -55,6 +55,7 @@ def ended(main, description, words):
 
 def run(main, description):
     """Calls `main` with the words of the command line; it gives the exit status, none for 0."""
+    files.open_error_stream()
     files.end_with_the_pipe()
     status, fault = ended(main, description, sys.argv[1:])
     if fault:

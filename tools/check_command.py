@@ -10,6 +10,7 @@ their form) each refusal about a coordinate must name the coordinate. The last l
 nothing was wrong.
 """
 import contextlib
+import errno
 import io
 import os
 import random
@@ -22,7 +23,7 @@ import called
 import case_files
 import conversions
 import model
-from ravenvanity import again, cell_text, progress, proved, write
+from ravenvanity import again, cell_text, files, progress, proved, write
 from ravenvanity import sheet as form
 
 ROOT = os.path.dirname(os.path.dirname(os.path.abspath(__file__)))
@@ -61,6 +62,10 @@ class Folder:
         with open(os.path.join(self.path, name), "rb") as f:
             return f.read()
 
+    def all(self):
+        """What each file holds; a link to nothing is passed over."""
+        return {name: self.get(name) for name in os.listdir(self.path) if os.path.exists(os.path.join(self.path, name))}
+
     def ran(self, words, given=b"", command=COMMAND):
         self.count.runs += 1
         return subprocess.run([command, *(words.split(" ") if isinstance(words, str) else words)], cwd=self.path, input=given, capture_output=True)
@@ -93,7 +98,9 @@ WRONG_USES = (
     ("sheet", "INPUT"), ("sheet a.cell --policy 0", "go together"), ("sheet a.cell --unit 1", "go together"), ("sheet a.cell --policy x --unit 1", "not x"), ("sheet missing", "No such file"), ("sheet a.cell --cell --library", "--library"),
     ("sheet a.cell --hex -o /dev/full", "/dev/full: No space"), ("show", "--report FILE"), ("show - --report -", "standard input"), ("show missing", "No such file"), ("show a.str --report missing", "No such file"),
     ("draw", "INPUT"), ("draw missing", "No such file"), ("draw a.str -o missing/x", "missing/x"), ("refusal x", "not x"), ("refusal 99", "no refusal 99"), ("refusal 0", "no refusal 0"), ("refusal 18 x", "not x"),
-    ("refusal 18 -1", "not -1"), ("refusal 18 0 1 2", "a block"), ("prepare x", "x"),
+    ("refusal 18 -1", "not -1"), ("refusal 18 0 1 2", "a block"), ("prepare x", "x"), ("write a.cell --policy 0 --unit 1 --unit 1 -o x", "--unit is given twice"), (f"write a.cell {CALL} -o x -o y", "-o is given twice"),
+    (f"write a.cell {CALL} -o new --report ./new", "both outputs"), (f"write a.cell {CALL} -o new --report link", "both outputs"), ("sheet a.sheet --hex", "of a sheet a text is written"),
+    ("sheet a.sheet --program --policy 0 --unit 1", "--program"), ("sheet a.library --policy 0 --unit 1", "the program `structure` writes cells"), (f"write a.cell {CALL} extra -o x", "`ravenvanity write --help`"),
     ("bounds", "LOWER, UPPER"), ("bounds 0 --unit 1 --policy 0", "UPPER"), ("bounds 0 0 0 --unit 1 --policy 0", "0"), ("bounds 0 0 --policy 0", "--unit"), ("bounds 0 0 --unit 1", "--policy"),
     ("bounds 0 0 --unit", "--unit"), ("bounds 0 0 --unit 1 --policy foo", "not foo"), ("bounds 0 0 --unit 1 --policy " + "9" * 5000, "255"), ("bounds x 0 --unit 1 --policy 0", "the lower end"),
     ("bounds 0 1e999 --unit 1 --policy 0", "beyond the doubles"), ("bounds 0 0 --unit 0x12 --policy 0", "the database unit"),
@@ -104,14 +111,14 @@ WRONG_USES = (
 # what is refused or cannot be read: status 1
 REFUSED = (
     (f"write empty {CALL} -o x", "empty, line 1: there is no `cell` line"), (f"write bad.cell {CALL} -o x", "bad.cell, line 2"), (f"write latin.cell {CALL} -o x", "latin.cell, line 2: byte 0xb5 is not UTF-8"),
-    (f"write a.library {CALL} -o x", "`ravenvanity library` writes"), (f"library a.cell {CALL} -o x", "a.cell, line 2: the first line is `library`"), (f"write odd.hex {CALL} -o x", "odd number of hex digits"),
+    (f"write a.library {CALL} -o x", "`ravenvanity library` writes"), (f"library a.cell {CALL} -o x", "is the text of a cell, which `ravenvanity write` writes"), (f"write odd.hex {CALL} -o x", "odd number of hex digits"),
     (f"write empty --as-sheet {CALL} -o x", "refusal 4: "), (f"library empty --as-sheet {CALL} -o x", "refusal 23, outside a cell: "), (f"write library.sheet {CALL} -o x", "`ravenvanity library` writes it"),
     ("write a.cell --policy 4 --unit 1 -o x", "refusal 1: "), ("write a.cell --policy 0 --unit -1 -o x", "refusal 2: "), ("measure a.cell --policy 0 --unit nan", "refusal 2: "),
     ("write grid.cell --policy strict --unit 1e-9 -o x", "refusal 18, block 3 (element 2, a node): a value is off the grid and the policy is strict\nravenvanity: looked at again, outside the proof: point 0, x, is 0.0005@1e-06, p 5e-10, p / d 0.5"),
     ("library a.library --policy strict --unit 1e-9 -o x", 'refusal 18, cell 0 ("VIA"), block 2 (element 1, a node): '), ("library a.library --policy 0 --unit 1e-300 -o x", "refusal 24, outside a cell: "),
-    ("show empty", "byte 0"), ("show a.cell", "byte 2"), ("show a.sheet", "it may be a sheet"), ("show cut.str", "cut.str, byte 80: "), ("show a.str --report cut.str", "byte 4: report entry"), ("show --report cut.report", "33 bytes, 32 are left"),
+    ("show empty", "byte 0"), ("show a.cell", "byte 2"), ("show a.sheet", "it may be a sheet"), ("show cut.str", "cut.str, byte 80: "), ("show a.str --report cut.str", "cut.str, byte 4: report entry"), ("show a.str --report other.report", "other.report, byte 0: report entry: structure \"A\" has no element 0 that is a polygon"), ("show --report library.report", "a library's report is shown with its file"), ("draw a.sheet", "it may be a sheet"), (f"write odd.hex {CALL} -o x", "odd.hex, hex digits"), ("show --report cut.report", "33 bytes, 32 are left"),
     ("draw empty", "byte 0"), ("draw a.gds --structure NO", "there is no structure"), ("draw none.gds", "no structure to draw"), ("sheet empty", "no `cell` line"), ("sheet cut.sheet", "cut.sheet, byte"),
-    ("sheet a.library --cell", "`ravenvanity library` writes"), ("sheet a.cell --library", "first line is `library`"), ("sheet empty --program", "at least 9 bytes"), ("sheet turned.cell", "line 2: this array is turned by 30.0 degrees: give it the lines `sine` and `cosine`"), ("sheet one.cell", "stand together"),
+    ("sheet a.library --cell", "`ravenvanity library` writes"), ("sheet a.cell --library", "which `ravenvanity write` writes"), ("sheet empty --program", "at least 9 bytes"), ("sheet turned.cell", "line 2: this array is turned by 30.0 degrees: give it the lines `sine` and `cosine`"), ("sheet one.cell", "stand together"),
     ("sheet infinite.cell --machine-sines", "not finite"), ("bounds 1 0 --unit 1 --policy 0", "refusal 32: "), ("bounds inf 0 --unit 1 --policy 0", "refusal 17, the lower end: "),
     ("bounds 0 -inf --unit 1 --policy 0", "refusal 17, the upper end: "), ("survey 1 0 --unit 1 --policy 0", "refusal 33: "), ("survey -inf 1 --unit 1 --policy 0", "refusal 17: the pitch is not finite"),
 )
@@ -132,6 +139,9 @@ def prepared(folder):
     folder.put("a.str", bytes.fromhex(ROW))
     folder.put("cut.str", bytes.fromhex(ROW)[:80])
     folder.put("cut.report", bytes.fromhex(ROW_ENTRY)[:32])
+    folder.put("other.report", bytes.fromhex(ROW_ENTRY.replace("0000000005", "0000000001", 1)))
+    folder.put("library.report", bytes.fromhex("00000001" + ROW_ENTRY))
+    os.symlink("new", os.path.join(folder.path, "link"))
     for words in ("sheet a.cell -o a.sheet", "sheet a.library -o library.sheet", f"library a.library {CALL} -o a.gds"):
         folder.says(words, 0)
     folder.put("cut.sheet", folder.get("a.sheet")[:-1])
@@ -141,12 +151,17 @@ def prepared(folder):
 
 def faults(folder):
     """No fault makes a file, or changes one."""
-    before = {name: folder.get(name) for name in os.listdir(folder.path)}
+    before = folder.all()
     for words, error in WRONG_USES:
         folder.says(words.split(" ") if words else [], 2, error)
     for words, error in REFUSED:
         folder.says(words, 1, error)
-    folder.count.hold("files after faults", {name: folder.get(name) for name in os.listdir(folder.path)}, before)
+    for words in (["write", "", *CALL_1.split(" "), "-o", "x"], ["write", "a.cell", *CALL_1.split(" "), "-o", ""]):
+        folder.says(words, 2, "a file's name is empty")
+    with open(os.path.join(folder.path, "a.cell"), "rb") as given:
+        done = subprocess.run([COMMAND, "write", "-", *CALL_1.split(" "), "-o", "a.cell"], cwd=folder.path, stdin=given, capture_output=True)
+    folder.count.hold("the input by another name", (done.returncode, done.stderr), (2, b"ravenvanity: a.cell is the input, and would be lost\n"))
+    folder.count.hold("files after faults", folder.all(), before)
 
 
 def ways(folder):
@@ -256,6 +271,8 @@ def ends(folder):
     for words in ("refusal", "show long.str", "sheet long.cell --hex"):
         done = subprocess.run(["bash", "-c", f'"{COMMAND}" {words} 2>&1 >/dev/null | cat; "{COMMAND}" {words} 2>closed | true; cat closed'], cwd=folder.path, capture_output=True)
         folder.count.hold(f"{words} into a closed pipe", done.stdout, b"")
+    done = subprocess.run(["bash", "-c", f'"{COMMAND}" write a.cell {CALL_1} -o - 2>&- | od -An -v -tx1 | tr -d " \\n"'], cwd=folder.path, capture_output=True)
+    folder.count.hold("standard error closed", done.stdout.decode(), ROW)
     for words in ("refusal", "--help", "show a.str"):
         done = subprocess.run(["bash", "-c", f'"{COMMAND}" {words} > /dev/full'], cwd=folder.path, capture_output=True)
         folder.count.hold(f"{words} on a full disk", (done.returncode, done.stderr), (2, b"ravenvanity: standard output: No space left on device\n"))
@@ -277,6 +294,30 @@ def replaced(folder):
     folder.count.hold("permissions", stat.S_IMODE(os.stat(os.path.join(folder.path, "kept.str")).st_mode), 0o640)
     folder.says("write a.cell --policy 0 --unit 1 -o kept.str --report /dev/full", 2, "No space")
     folder.count.hold("names", set(os.listdir(folder.path)), names)
+    place = os.path.join(folder.path, "kept.str")
+    for new in ("second.report", "a.report"):
+        torn(folder, place, os.path.join(folder.path, new))
+
+
+def torn(folder, first, second):
+    """Where the second file cannot take its place, the first gives its own back."""
+    before, replace, calls = folder.all(), os.replace, []
+
+    def failing(made, target):
+        calls.append(target)
+        if len(calls) == 2:
+            raise OSError(errno.EPERM, "not permitted")
+        replace(made, target)
+
+    os.replace = failing
+    try:
+        files.write_all([(first, b"new structure"), (second, b"new report")])
+        folder.count.fail("a file that cannot take its place is no fault")
+    except OSError as fault:
+        folder.count.hold("the file at fault", fault.filename, second)
+    finally:
+        os.replace = replace
+    folder.count.hold("files that stay as they were", folder.all(), before)
 
 
 def progress_told(count):

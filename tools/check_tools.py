@@ -31,11 +31,11 @@ from ravenvanity import cell_text, draw, files, library_text, proved, refusal, s
 from ravenvanity import sheet as form
 
 BAD_TEXTS = (
-    ("", 1, "no `cell` line"), ("# only\n# comments", 2, "no `cell` line"), ("polygon 1 2", 1, "first line is `cell`"),
+    ("", 1, "no `cell` line"), ("# only\n# comments", 2, "no `cell` line"), ("polygon 1 2", 1, "first line must be `cell`"),
     ('cell "A', 1, "no closing"), ("cell A", 1, "string"), ('cell "A" "B"', 1, "takes 1"), ('cell "A"\ncell "B"', 2, "second `cell`"),
     ('cell "\\q"', 1, "escape"), ('cell "\\x4"', 1, "escape"), (f'cell "{"x" * 65536}"', 1, "65536 bytes"), ('"A"', 1, "starts with a word"),
     ('cell "A"\nstamps 1 2', 2, "takes 12"), ('cell "A"\nstamps zero\nstamps zero', 3, "once"), ('cell "A"\nstamps' + " 65536" * 12, 2, "65535"),
-    ('cell "A"\npoint 1@1 1@1', 2, "before the first element"), ('cell "A"\nblob 1 2', 2, "before the first element"),
+    ('cell "A"\npoint 1@1 1@1', 2, "before the first element"), ('cell "A"\nblob 1 2', 2, "no line `blob`"), ('cell "A"\nnode 1 2\n blob', 3, "no line `blob`"),
     ('cell "A"\npolygon 1', 2, "takes 2"), ('cell "A"\npolygon 65536 0', 2, "65535"), ('cell "A"\npolygon -1 0', 2, "65535"),
     ('cell "A"\npolygon 1 2\n  width 1@1', 3, "no line of a polygon"), ('cell "A"\npath 1 2\n width 1@1\n width 1@1', 4, "second `width`"),
     ('cell "A"\npath 1 2\n pathtype 3', 3, "0 to 2"), ('cell "A"\nnode 1 2\n point 1@1', 3, "takes 2"), ('cell "A"\nnode 1 2\n point 1 2', 3, "VALUE@UNIT"),
@@ -50,7 +50,7 @@ BAD_TEXTS = (
 )
 
 BAD_LIBRARIES = (
-    ("", 1, "no `library` line"), ('cell "A"', 1, "first line is `library`"), ("library A", 1, "string"), ('library "A" "B"', 1, "takes 1"),
+    ("", 1, "no `library` line"), ('cell "A"', 1, "first line must be `library`"), ("library A", 1, "string"), ('library "A" "B"', 1, "takes 1"),
     ('library "A"', 1, "no `user_unit` line"), ('# L\nlibrary "A"\ncell "B"', 2, "no `user_unit` line"), ('library "A"\nuser_unit', 2, "takes 1"),
     ('library "A"\nuser_unit x', 2, "user_unit is a decimal"), ('library "A"\nuser_unit 1\nuser_unit 1', 3, "once"),
     ('library "A"\nuser_unit 1\ncell "B"\nuser_unit 1', 4, "once"), ('library "A"\nlibrary "B"', 2, "second `library`"),
@@ -117,7 +117,7 @@ def there_and_back(case, sheet, count):
 
 def read_back(case, count):
     try:
-        show.explain("\n".join(case.lines).encode() + b"\n", False, lambda line: None)
+        show.explain("\n".join(case.lines).encode() + b"\n", lambda line: None)
     except show.Damage as damage:
         count.fail(f"{case.name}: {damage}")
     if case.lines[0].startswith("ok"):
@@ -146,7 +146,7 @@ def padded(case, count):
     """A library file with zero bytes after it and its report."""
     said, stream, report = [], bytes.fromhex(case.lines[1]), bytes.fromhex("".join(case.lines[2:]))
     try:
-        show.with_report(stream + bytes(2048), report, said.append)
+        show.entries(report, said.append, show.explain(stream + bytes(2048), said.append))
     except show.Damage as damage:
         count.fail(f"{case.name}: {damage}")
     if not any("2048 zero bytes after ENDLIB" in line for line in said):

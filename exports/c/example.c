@@ -1,9 +1,10 @@
-// Writes document 01's array, then a cell of polygons, a path and a text, then a library: makes the sheet, measures, takes the
-// memory, writes, and reads the report. Tells refusals in words. Then asks where a length that is known within bounds may come to
+// Writes document 01's array, into buffers of its own, then a cell of polygons, a path and a text, then a library: makes the
+// sheet, writes, and reads the report. Tells refusals in words. Then asks where a length that is known within bounds may come to
 // lie, and how many places of a row a pitch disturbs.
 #include "ravenvanity.h"
 #include "ravenvanity_report.h"
 #include "ravenvanity_sheet.h"
+#include "ravenvanity_write.h"
 #include <inttypes.h>
 #include <stdio.h>
 #include <stdlib.h>
@@ -71,85 +72,94 @@ static void print_hex(const uint8_t *bytes, size_t length) {
 }
 
 static void print_accepted(const char *what, size_t length, size_t entries, double greatest) {
-    printf("%s: %zu bytes, %zu report %s, greatest error %g\n", what, length, entries, entries == 1 ? "entry" : "entries", greatest);
+    char words[RAVENVANITY_DOUBLE_ROOM];
+    ravenvanity_double_words(greatest, words);
+    printf("%s: %zu bytes, %zu report %s, greatest error %s\n", what, length, entries, entries == 1 ? "entry" : "entries", words);
 }
 
-static void print_entry(const struct ravenvanity_entry *e) {
-    if (e->cell != RAVENVANITY_NO_CELL)
-        printf("cell %zu, ", e->cell);
-    printf("element %" PRIu32 " (%s): %" PRIu32 " %s affected, ", e->index, ravenvanity_kind_name(e->kind), e->affected,
-           e->affected == 1 ? "value" : "values");
-    printf("worst %s", ravenvanity_field_name(e->field));
-    if (e->field == RAVENVANITY_FIELD_POINT)
-        printf(" %d", e->place);
-    if (e->axis != RAVENVANITY_AXIS_NONE)
-        printf(" %s", ravenvanity_axis_name(e->axis));
-    printf(": p %g, q %" PRId32 ", error %g\n", e->physical, e->database, e->error);
+typedef bool next_entry(const uint8_t *, size_t, size_t *, struct ravenvanity_entry *);
+
+static void print_entries(const uint8_t *report, size_t length, next_entry *next) {
+    struct ravenvanity_entry entry;
+    char words[RAVENVANITY_WORDS_ROOM];
+    for (size_t at = 0; next(report, length, &at, &entry);) {
+        ravenvanity_entry_words(&entry, words, sizeof words);
+        puts(words);
+    }
 }
 
-static void print_refusal(const char *what, uint8_t number, size_t cell, size_t block) {
-    printf("%s: refusal %d", what, number);
-    if (cell != RAVENVANITY_NO_CELL)
-        printf(", cell %zu", cell);
-    if (block != 0)
-        printf(", block %zu", block);
-    printf(": %s\n", ravenvanity_refusal_words(number));
+static void print_refusal(const char *what, uint8_t number, size_t block) {
+    char line[RAVENVANITY_WORDS_ROOM];
+    ravenvanity_refusal_line(number, block, line, sizeof line);
+    printf("%s: %s\n", what, line);
+}
+
+static void print_library_refusal(const char *what, uint8_t number, size_t cell, size_t block) {
+    char line[RAVENVANITY_WORDS_ROOM];
+    ravenvanity_library_refusal_line(number, cell, block, line, sizeof line);
+    printf("%s: %s\n", what, line);
 }
 
 // ---- writing
 
+static void no_memory(void) {
+    fprintf(stderr, "there is no memory\n");
+    exit(1);
+}
+
+// What was written, which is then freed.
+static void print_written(const char *what, struct ravenvanity_written written, next_entry *next) {
+    if (written.no_memory)
+        no_memory();
+    print_accepted(what, written.length, written.entries, written.greatest);
+    print_hex(written.bytes, written.length);
+    print_hex(written.report, written.report_length);
+    print_entries(written.report, written.report_length, next);
+    ravenvanity_free_written(&written);
+}
+
+static void write_cell(const char *what, const struct ravenvanity_sheet *sheet, uint8_t policy, double d) {
+    struct ravenvanity_written written = ravenvanity_write_new_cell(sheet->bytes, sheet->length, policy, d);
+    if (written.number == 0)
+        print_written(what, written, ravenvanity_next_entry);
+    else
+        print_refusal(what, written.number, written.block);
+}
+
+static void write_library(const char *what, const struct ravenvanity_sheet *sheet, uint8_t policy, double d) {
+    struct ravenvanity_written written = ravenvanity_write_new_library(sheet->bytes, sheet->length, policy, d);
+    if (written.number == 0)
+        print_written(what, written, ravenvanity_next_library_entry);
+    else
+        print_library_refusal(what, written.number, written.cell, written.block);
+}
+
 // One byte more, since no pointer that is lent may be NULL and malloc(0) may be.
 static uint8_t *room_for(size_t length) {
     uint8_t *room = malloc(length + 1);
-    if (room == NULL) {
-        fprintf(stderr, "there is no memory\n");
-        exit(1);
-    }
+    if (room == NULL)
+        no_memory();
     return room;
 }
 
-// Into so many bytes less than it takes.
-static void write_cell(const char *what, const struct ravenvanity_sheet *sheet, uint8_t policy, double d, size_t less) {
+// Into buffers of its own, as a caller may who has the memory already: with so many bytes less than it takes.
+static void write_lent(const char *what, const struct ravenvanity_sheet *sheet, size_t less, size_t report_less) {
     size_t block, length, entries;
     double greatest;
-    uint8_t number = ravenvanity_measure_cell(sheet->bytes, sheet->length, &block, &length, &entries, &greatest, policy, d);
+    uint8_t number =
+        ravenvanity_measure_cell(sheet->bytes, sheet->length, &block, &length, &entries, &greatest, RAVENVANITY_NEAREST, 1);
     size_t report_length = entries * RAVENVANITY_ENTRY_LENGTH;
     uint8_t *out = room_for(length), *report = room_for(report_length);
     if (number == 0)
-        number = ravenvanity_write_cell(sheet->bytes, sheet->length, out, length - less, report, report_length, &block, &length,
-                                        &entries, &greatest, policy, d);
+        number = ravenvanity_write_cell(sheet->bytes, sheet->length, out, length - less, report, report_length - report_less,
+                                        &block, &length, &entries, &greatest, RAVENVANITY_NEAREST, 1);
     if (number == 0) {
         print_accepted(what, length, entries, greatest);
         print_hex(out, length);
         print_hex(report, report_length);
-        struct ravenvanity_entry entry;
-        for (size_t at = 0; ravenvanity_next_entry(report, report_length, &at, &entry);)
-            print_entry(&entry);
+        print_entries(report, report_length, ravenvanity_next_entry);
     } else {
-        print_refusal(what, number, RAVENVANITY_NO_CELL, block);
-    }
-    free(out), free(report);
-}
-
-// With a report of so many bytes less than it takes.
-static void write_library(const char *what, const struct ravenvanity_sheet *sheet, uint8_t policy, double d, size_t less) {
-    size_t cell, block, length, entries;
-    double greatest;
-    uint8_t number = ravenvanity_measure_library(sheet->bytes, sheet->length, &cell, &block, &length, &entries, &greatest, policy, d);
-    size_t report_length = entries * RAVENVANITY_LIBRARY_ENTRY_LENGTH;
-    uint8_t *out = room_for(length), *report = room_for(report_length);
-    if (number == 0)
-        number = ravenvanity_write_library(sheet->bytes, sheet->length, out, length, report, report_length - less, &cell, &block,
-                                           &length, &entries, &greatest, policy, d);
-    if (number == 0) {
-        print_accepted(what, length, entries, greatest);
-        print_hex(out, length);
-        print_hex(report, report_length);
-        struct ravenvanity_entry entry;
-        for (size_t at = 0; ravenvanity_next_library_entry(report, report_length, &at, &entry);)
-            print_entry(&entry);
-    } else {
-        print_refusal(what, number, cell, block);
+        print_refusal(what, number, block);
     }
     free(out), free(report);
 }
@@ -162,7 +172,7 @@ static void print_bounds(const char *what, double lower, double upper) {
     if (number == 0)
         printf("%s: %" PRId32 " to %" PRId32 "\n", what, least, greatest);
     else
-        print_refusal(what, number, RAVENVANITY_NO_CELL, 0);
+        print_refusal(what, number, 0);
 }
 
 static void print_survey(const char *what, double pitch, uint32_t n) {
@@ -171,24 +181,24 @@ static void print_survey(const char *what, double pitch, uint32_t n) {
     if (number == 0)
         printf("%s: %" PRIu32 " clean, %" PRIu32 " due, %" PRIu32 " refused\n", what, clean, due, refused);
     else
-        print_refusal(what, number, RAVENVANITY_NO_CELL, 0);
+        print_refusal(what, number, 0);
 }
 
 int main(void) {
     struct ravenvanity_sheet sheet = cell_of("A", add_array);
-    write_cell("array", &sheet, RAVENVANITY_NEAREST, 1, 0);
-    write_cell("a byte less", &sheet, RAVENVANITY_NEAREST, 1, 1);
+    write_lent("array", &sheet, 0, 0);
+    write_lent("a byte less", &sheet, 1, 0);
+    write_lent("a byte less of report", &sheet, 0, 1);
     ravenvanity_free(&sheet);
 
     sheet = cell_of("SHAPES", add_shapes);
-    write_cell("shapes", &sheet, RAVENVANITY_NEAREST, 1e-9, 0);
-    write_cell("shapes, strict", &sheet, RAVENVANITY_STRICT, 1e-9, 0);
+    write_cell("shapes", &sheet, RAVENVANITY_NEAREST, 1e-9);
+    write_cell("shapes, strict", &sheet, RAVENVANITY_STRICT, 1e-9);
     ravenvanity_free(&sheet);
 
     sheet = library();
-    write_library("library", &sheet, RAVENVANITY_NEAREST, 1, 0);
-    write_library("library, strict", &sheet, RAVENVANITY_STRICT, 1, 0);
-    write_library("a byte less of report", &sheet, RAVENVANITY_NEAREST, 1, 1);
+    write_library("library", &sheet, RAVENVANITY_NEAREST, 1);
+    write_library("library, strict", &sheet, RAVENVANITY_STRICT, 1);
     ravenvanity_free(&sheet);
 
     print_bounds("10.25 to 10.75", 10.25, 10.75);

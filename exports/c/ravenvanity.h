@@ -1,7 +1,8 @@
 /* The proved GDSII writer of cells and libraries, lengths within bounds, and the pitch survey: document 01 has the cell
  * sheet, the refusals and the report entry, document 02 the library sheet, the bounds and the survey (its requests 1, 11
  * and 12). docs/FORMAT.md has both sheets, what is written and the report entries byte by byte.
- * ravenvanity_sheet.h makes sheets, and ravenvanity_report.h reads reports and tells refusals in words; neither is proved.
+ * ravenvanity_sheet.h makes sheets, ravenvanity_write.h takes the memory for what is written, and ravenvanity_report.h reads
+ * reports and tells refusals in words; none of the three is proved.
  *
  * No pointer may be NULL, not even with length 0; the sheet, the two buffers and the answers must not overlap.
  * Nothing else is asked of a caller: every sheet, number and length has an answer. Nothing is kept between calls, no

@@ -1,16 +1,24 @@
 /* Refusals in words, and report entries one by one. A convenience, outside the proof; docs/FORMAT.md, sections 6 and 7, has both.
  *
  *     struct ravenvanity_entry entry;
- *     size_t at = 0;
- *     while (ravenvanity_next_entry(report, report_length, &at, &entry))
- *         printf("%s %u: %g\n", ravenvanity_kind_name(entry.kind), entry.index, entry.error);
+ *     char words[RAVENVANITY_WORDS_ROOM];
+ *     for (size_t at = 0; ravenvanity_next_entry(report, report_length, &at, &entry);) {
+ *         ravenvanity_entry_words(&entry, words, sizeof words);
+ *         puts(words);
+ *     }
  */
 #ifndef RAVENVANITY_REPORT_H
 #define RAVENVANITY_REPORT_H
 
 #include "ravenvanity.h"
+#include <inttypes.h>
 #include <stdbool.h>
+#include <stdio.h>
+#include <stdlib.h>
 #include <string.h>
+
+#define RAVENVANITY_DOUBLE_ROOM 32
+#define RAVENVANITY_WORDS_ROOM 512 /* enough for every entry and every refusal */
 
 /* What a refusal means, by the number that a function returned. */
 static inline const char *ravenvanity_refusal_words(uint8_t number) {
@@ -19,7 +27,7 @@ static inline const char *ravenvanity_refusal_words(uint8_t number) {
     case RAVENVANITY_REFUSAL_DATABASE_UNIT: return "the database unit d is not finite and positive";
     case RAVENVANITY_REFUSAL_SHEET_SIZE: return "the sheet is over 16,777,216 bytes";
     case RAVENVANITY_REFUSAL_PAIRS: return "the pairs are ill-formed: count outside 1 to 16,384, a pair missing, an offset that is not where the block before ends, a length of 0, or a last block that does not end with the sheet";
-    case RAVENVANITY_REFUSAL_FORM: return "the block is ill-formed: too short, too long, or a code that is unknown (element kind, coordinate kind, path type, presentation, reflection), or a coordinate absent where it may not be";
+    case RAVENVANITY_REFUSAL_FORM: return "the block is ill-formed: too short, too long, a code that is unknown (element kind, coordinate kind, path type, presentation, reflection), an integer whose four upper bytes are not zero, a coordinate absent where it may not be, or absent but not zero bytes";
     case RAVENVANITY_REFUSAL_STAMP: return "a stamp is no date and time of the years 1 to 9999, and the twelve numbers are not all zero";
     case RAVENVANITY_REFUSAL_NAME: return "a structure name is not 1 to 32 of A-Z a-z 0-9 _ ? $: in block 0 the cell's own, else the called one";
     case RAVENVANITY_REFUSAL_POINT_COUNT: return "the point count: a polygon has 4 to 8,191, a path 2 to 8,191, a node 1 to 50";
@@ -44,6 +52,32 @@ static inline const char *ravenvanity_refusal_words(uint8_t number) {
     case RAVENVANITY_REFUSAL_SURVEY_COUNT: return "the number of places is not 1 to 65,536";
     default: return "no refusal";
     }
+}
+
+/* ---- whole lines, without their end. As by snprintf: the length that they need is returned, and where size is not above it,
+ * the text is cut short; text may be NULL where size is 0 */
+
+/* For the next two alone: block 0 is told where it is the head of a cell. */
+static inline size_t ravenvanity_refusal_told(uint8_t number, const char *in_cell, bool of_cell, size_t block, char *text,
+                                              size_t size) {
+    bool of_head = number == RAVENVANITY_REFUSAL_FORM || number == RAVENVANITY_REFUSAL_STAMP || number == RAVENVANITY_REFUSAL_NAME;
+    char in_block[32] = "";
+    if (block > 0 || (of_cell && of_head))
+        snprintf(in_block, sizeof in_block, ", block %zu", block);
+    return (size_t)snprintf(text, size, "refusal %d%s%s: %s", number, in_cell, in_block, ravenvanity_refusal_words(number));
+}
+
+/* A refusal of a cell, of bounds or of a survey, of which the last two have block 0: the number, the block, and the words. */
+static inline size_t ravenvanity_refusal_line(uint8_t number, size_t block, char *text, size_t size) {
+    return ravenvanity_refusal_told(number, "", true, block, text, size);
+}
+
+/* A refusal of a library, with its cell; the cell is RAVENVANITY_NO_CELL outside one. */
+static inline size_t ravenvanity_library_refusal_line(uint8_t number, size_t cell, size_t block, char *text, size_t size) {
+    char in_cell[32] = "";
+    if (cell != RAVENVANITY_NO_CELL)
+        snprintf(in_cell, sizeof in_cell, ", cell %zu", cell);
+    return ravenvanity_refusal_told(number, in_cell, cell != RAVENVANITY_NO_CELL, block, text, size);
 }
 
 enum ravenvanity_field {
@@ -181,6 +215,33 @@ static inline bool ravenvanity_next_library_entry(const uint8_t *report, size_t 
     *entry = ravenvanity_entry_at(from + 4);
     entry->cell = ravenvanity_number_at(from, 4);
     return true;
+}
+
+/* ---- and in words */
+
+/* By the first of 15, 16 and 17 digits that reads back as the same, with the locale's point, in RAVENVANITY_DOUBLE_ROOM bytes. */
+static inline void ravenvanity_double_words(double value, char *text) {
+    for (int digits = 15; digits <= 17; digits++) {
+        snprintf(text, RAVENVANITY_DOUBLE_ROOM, "%.*g", digits, value);
+        if (strtod(text, NULL) == value)
+            return;
+    }
+}
+
+/* The entry in one line, as ravenvanity_refusal_line has a refusal. */
+static inline size_t ravenvanity_entry_words(const struct ravenvanity_entry *entry, char *text, size_t size) {
+    char cell[32] = "", place[16] = "", physical[RAVENVANITY_DOUBLE_ROOM], error[RAVENVANITY_DOUBLE_ROOM];
+    if (entry->cell != RAVENVANITY_NO_CELL)
+        snprintf(cell, sizeof cell, "cell %zu, ", entry->cell);
+    if (entry->field == RAVENVANITY_FIELD_POINT)
+        snprintf(place, sizeof place, " %d", entry->place);
+    ravenvanity_double_words(entry->physical, physical);
+    ravenvanity_double_words(entry->error, error);
+    return (size_t)snprintf(
+        text, size, "%selement %" PRIu32 " (%s): %" PRIu32 " %s affected, worst %s%s%s%s: p %s, q %" PRId32 ", error %s",
+        cell, entry->index, ravenvanity_kind_name(entry->kind), entry->affected, entry->affected == 1 ? "value" : "values",
+        ravenvanity_field_name(entry->field), place, entry->axis == RAVENVANITY_AXIS_NONE ? "" : " ",
+        ravenvanity_axis_name(entry->axis), physical, entry->database, error);
 }
 
 #endif

@@ -109,7 +109,7 @@ def shown(token):
 
 def arity(tokens, *counts):
     if len(tokens) - 1 not in counts:
-        raise Wrong(f"`{tokens[0]}` takes {' or '.join(map(str, counts))} values, not {len(tokens) - 1}")
+        raise Wrong(f"`{tokens[0]}` takes {' or '.join(map(str, counts))} {'value' if counts == (1,) else 'values'}, not {len(tokens) - 1}")
 
 
 def string(token, what):
@@ -156,6 +156,7 @@ DETAILS = {
     "text": {**TURNED, "vertical": ("vertical", a_code(2)), "horizontal": ("horizontal", a_code(2))},
     "reference": {**TURNED, "column": ("column", a_spacing), "row": ("row", a_spacing), "sine": ("sine", a_double), "cosine": ("cosine", a_double)},
 }
+LINES = {"point", "property", *(word for lines in DETAILS.values() for word in lines)}
 ONE, NOUGHT = bits_of(1.0), bits_of(0.0)
 ABOUT = {"reflection": 0, "magnification": ONE, "degrees": NOUGHT}
 MISSING = {
@@ -199,8 +200,10 @@ class Element:
             self.take_once(word, tokens)
 
     def take_once(self, word, tokens):
+        if word not in LINES:
+            raise Wrong(f"there is no line `{shown(word)}` in the text form")
         if word not in DETAILS[self.word]:
-            raise Wrong(f"`{shown(word)}` is no line of a {self.word}")
+            raise Wrong(f"`{word}` is no line of a {self.word}")
         field, read = DETAILS[self.word][word]
         if field in self.fields:
             raise Wrong(f"a second `{word}` in one {self.word}")
@@ -269,7 +272,7 @@ class CellReader:
     def take(self, tokens, line):
         word = tokens[0]
         if (self.name is None) != (word == "cell"):
-            raise Wrong("the first line is `cell`" if self.name is None else "a second `cell`")
+            raise Wrong(f"the first line must be `cell`, not `{shown(word)}`" if self.name is None else "a second `cell`")
         if word == "cell":
             arity(tokens, 1)
             self.name = string(tokens[1], "the cell's name")
@@ -281,8 +284,10 @@ class CellReader:
             self.elements.append(Element(tokens, line))
         elif self.elements:
             self.elements[-1].take(tokens)
+        elif word in LINES:
+            raise Wrong(f"`{word}` before the first element")
         else:
-            raise Wrong(f"`{shown(word)}` before the first element")
+            raise Wrong(f"there is no line `{shown(word)}` in the text form")
 
     def take_stamps(self, tokens):
         if self.stamps is not None or self.elements:

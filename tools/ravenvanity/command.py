@@ -4,7 +4,6 @@ Results go to standard output or to the files that are named; messages, refusals
 are written whole or not at all. docs/COMMAND.md is its page.
 """
 import argparse
-import hashlib
 import math
 import os
 import re
@@ -18,7 +17,7 @@ from .inputs import CELL, LIBRARY, Unreadable, Wrong
 from .sheet import double_of
 
 DONE, REFUSED, WRONG_USE = 0, 1, 2
-ENDED_BY_PIPE, INTERRUPTED, TERMINATED = 141, 130, 143
+ENDED_BY_PIPE, HUNG_UP, INTERRUPTED, TERMINATED = 141, 129, 130, 143
 EPILOG = """An INPUT or FILE is a file's name; - is standard input or standard output. A double is a decimal (the nearest double is
 taken), inf, -inf, nan, or its bits: 0x and 16 hex digits. Exit status: 0 done; 1 a refusal, or an input that is not
 what it is to be; 2 wrong use, a file that cannot be read or written, or the proved library is not built."""
@@ -72,17 +71,33 @@ def is_file(path):
 
 
 def same(one, other):
-    return one == other or os.path.exists(one) and os.path.exists(other) and os.path.samefile(one, other)
+    """Whether two names are of one file, which may not be there yet."""
+    if os.path.realpath(one) == os.path.realpath(other):
+        return True
+    return os.path.exists(one) and os.path.exists(other) and os.path.samefile(one, other)
+
+
+def is_source(path, source):
+    """Whether a file is the input, also where that is standard input."""
+    if source != files.STANDARD:
+        return same(path, source)
+    return sys.stdin is not None and os.path.exists(path) and os.path.samestat(os.stat(path), os.fstat(sys.stdin.fileno()))
 
 
 def outputs_apart(source, *outputs):
     """No output may take the place of the input or of another."""
     named = [path for path in outputs if path is not None]
     for path in named:
-        if is_file(path) and same(path, source):
+        if is_file(path) and is_source(path, source):
             raise Wrong(f"{path} is the input, and would be lost")
-    if len(named) == 2 and (is_file(named[0]) or named[0] == files.STANDARD) and same(*named):
+    if named == [files.STANDARD] * 2 or len(named) == 2 and is_file(named[0]) and same(*named):
         raise Wrong(f"{named[0]} cannot hold both outputs")
+
+
+def read_bytes(path):
+    """A file's bytes, which may be given as hex digits."""
+    data = files.read_input(path)
+    return in_file(path, lambda: inputs.raw(data))
 
 
 def no_terminal(path, what):
@@ -96,7 +111,7 @@ def no_terminal(path, what):
 def measured(given, kind):
     """(job, length, entries, greatest error) of what is given; None after a refusal, which is told."""
     call, library = call_of(given), proved.load()
-    sheet = sheet_in(given, inputs.raw(files.read_input(given.input)), kind)
+    sheet = sheet_in(given, read_bytes(given.input), kind)
     kind = kind or inputs.kind_of(sheet)
     job = (write.Library if kind == LIBRARY else write.Cell)(library, *call, sheet)
     number, place, *numbers = job.measured()
@@ -111,6 +126,7 @@ def measured(given, kind):
 
 def write_run(given):
     kind = given.kind
+    progress.shown = not given.quiet
     outputs_apart(given.input, given.o, given.report)
     no_terminal(given.o, "a structure" if kind == CELL else "a library file")
     found = measured(given, kind)
@@ -144,16 +160,21 @@ def sheet_run(given):
     if (given.policy is None) != (given.unit is None):
         raise Wrong("--policy and --unit go together")
     front = struct.pack(">Bd", *call_of(given)) if given.unit is not None else b""
-    kind = given.kind
-    data = inputs.raw(files.read_input(given.input))
+    if front and given.program:
+        raise Wrong("--program reads the program's input, which --policy and --unit make")
+    data = read_bytes(given.input)
     if not front and (given.program or given.as_sheet or inputs.is_sheet(data)):
-        text = "".join(f"{line}\n" for line in text_of(data, given, kind))
+        if given.hex:
+            raise Wrong("--hex is for a sheet that is written, and of a sheet a text is written")
+        text = "".join(f"{line}\n" for line in text_of(data, given, given.kind))
         files.write_whole(given.o, text.encode())
         return DONE
-    made = front + sheet_in(given, data, kind)
+    sheet = sheet_in(given, data, given.kind)
+    if front and (given.kind or inputs.kind_of(sheet)) == LIBRARY:
+        raise Wrong("this is a library, and the program `structure` writes cells")
     if not given.hex:
         no_terminal(given.o, "a sheet")
-    files.write_whole(given.o, made.hex().encode() + b"\n" if given.hex else made)
+    files.write_whole(given.o, (front + sheet).hex().encode() + b"\n" if given.hex else front + sheet)
     return DONE
 
 
@@ -175,20 +196,28 @@ def show_run(given):
     if given.input == given.report == files.STANDARD:
         raise Wrong("a stream and its report cannot both be standard input")
     progress.shown = not sys.stdout.isatty()
-    data = None if given.input is None else files.read_input(given.input)
-    report = None if given.report is None else files.read_input(given.report)
+    structures = None
+    if given.input is not None:
+        data = files.read_input(given.input)
+        structures = in_file(given.input, lambda: show.explain(data, print), sheet_hint(data))
+    if given.report is not None:
+        report = files.read_input(given.report)
+        in_file(given.report, lambda: show.entries(inputs.raw(report), print, structures))
+    return DONE
+
+
+def sheet_hint(data):
+    """A sheet starts with a pair count, a stream with a record's length."""
+    return "; it may be a sheet, of which `ravenvanity sheet` makes a text" if data[:2] == b"\0\0" else ""
+
+
+def in_file(path, run, hint=""):
+    """What is wrong with a file's bytes is told with the file's name."""
     try:
-        if data is None:
-            show.explain(report, True, print)
-        elif report is None:
-            show.explain(data, False, print)
-        else:
-            show.with_report(data, report, print)
+        return run()
     except Unreadable as fault:
         sys.stdout.flush()
-        hint = "; it may be a sheet, of which `ravenvanity sheet` makes a text" if data and data[:2] == b"\0\0" else ""
-        raise Unreadable(f"{files.name_of(given.input or given.report)}, {fault}{hint}") from None
-    return DONE
+        raise Unreadable(f"{files.name_of(path)}, {fault}{hint}") from None
 
 
 def refusal_run(given):
@@ -206,10 +235,9 @@ def refusal_run(given):
 
 def draw_run(given):
     outputs_apart(given.input, given.o)
-    try:
-        lines, left_out = draw.draw(files.read_input(given.input), given.structure)
-    except Unreadable as fault:
-        raise Unreadable(f"{files.name_of(given.input)}, {fault}") from None
+    data = files.read_input(given.input)
+    name = None if given.structure is None else os.fsencode(given.structure)
+    lines, left_out = in_file(given.input, lambda: draw.draw(data, name), sheet_hint(data))
     files.write_whole(given.o, "\n".join(lines).encode() + b"\n")
     for what, count in left_out.items():
         say(f"left out, {show.many(count, 'time')}: {what}")
@@ -260,6 +288,15 @@ class Parser(argparse.ArgumentParser):
         sys.exit(WRONG_USE)
 
 
+class Once(argparse.Action):
+    """An option that is given twice is a mistake, whichever was meant."""
+
+    def __call__(self, parser, given, value, option=None):
+        if getattr(given, self.dest) != self.default:
+            parser.error(f"{option} is given twice")
+        setattr(given, self.dest, value)
+
+
 class Version(argparse.Action):
     """The proved library's sum, which two shops may compare."""
 
@@ -267,13 +304,13 @@ class Version(argparse.Action):
         super().__init__(nargs=0, **words)
 
     def __call__(self, parser, *_):
-        print(f"{hashlib.sha256(proved.archive()).hexdigest()}  {os.path.basename(proved.ARCHIVE)}")
+        print(f"{proved.archive_sum()}  {os.path.basename(proved.ARCHIVE)}")
         sys.exit(DONE)
 
 
 def call_options(parser, required=True, more=""):
-    parser.add_argument("--policy", metavar="P", required=required, help="nearest, floor, ceiling, strict or a number up to 255")
-    parser.add_argument("--unit", metavar="D", required=required, help=f"the database unit, a double{more}")
+    parser.add_argument("--policy", action=Once, metavar="P", required=required, help="nearest, floor, ceiling, strict or a number up to 255")
+    parser.add_argument("--unit", action=Once, metavar="D", required=required, help=f"the database unit, a double{more}")
 
 
 def input_options(parser, what):
@@ -292,8 +329,8 @@ def writer(subcommands, name, what, length):
     parser = subcommands.add_parser(name, help=f"a {what} written as GDSII, with its report", description=f"Writes a {what}, with its report, or tells the refusal.", epilog=EPILOG)
     input_options(parser, f"the {what}: a sheet, as bytes or hex digits, or the text form")
     call_options(parser)
-    parser.add_argument("-o", metavar="FILE", required=True, help="where to write it")
-    parser.add_argument("--report", metavar="FILE", help=f"where to write the report's entries, {length} bytes each")
+    parser.add_argument("-o", action=Once, metavar="FILE", required=True, help="where to write it")
+    parser.add_argument("--report", action=Once, metavar="FILE", help=f"where to write the report's entries, {length} bytes each")
     parser.add_argument("-q", "--quiet", action="store_true", help="say nothing where it is accepted")
     parser.set_defaults(run=write_run, kind=what)
 
@@ -321,12 +358,12 @@ def looking(subcommands):
     """Those that need no library."""
     parser = subcommands.add_parser("show", help="a structure or library file as text, record by record", description="Shows a stream record by record, and a report in words.", epilog=EPILOG)
     parser.add_argument("input", metavar="INPUT", nargs="?", help="a structure or a library file, as bytes or hex digits, or the lines of the program `structure`")
-    parser.add_argument("--report", metavar="FILE", help="its report; without an INPUT, the report of a cell")
+    parser.add_argument("--report", action=Once, metavar="FILE", help="its report; without an INPUT, the report of a cell")
     parser.set_defaults(run=show_run)
     parser = subcommands.add_parser("draw", help="a picture of a structure", description="Draws a structure, or one of a library file with what it calls, as SVG.", epilog=EPILOG)
     parser.add_argument("input", metavar="INPUT", help="as for show")
-    parser.add_argument("--structure", metavar="NAME", help="which structure of a library file; else the last")
-    parser.add_argument("-o", metavar="FILE", default=files.STANDARD, help="where to write; else to standard output")
+    parser.add_argument("--structure", action=Once, metavar="NAME", help="which structure of a library file; else the last")
+    parser.add_argument("-o", action=Once, metavar="FILE", default=files.STANDARD, help="where to write; else to standard output")
     parser.set_defaults(run=draw_run)
     parser = subcommands.add_parser("sheet", help="text form to sheet, and back", description="Makes a sheet of a text form, or a text form of a sheet.", epilog=EPILOG)
     input_options(parser, "a text form, or a sheet, as bytes or hex digits")
@@ -334,7 +371,7 @@ def looking(subcommands):
     parser.add_argument("--hex", action="store_true", help="write the sheet as hex digits")
     parser.add_argument("--program", action="store_true", help="the input is that of the program `structure`: policy and unit stand before the sheet")
     call_options(parser, required=False, more="; with both, what is written is the input of the program `structure`")
-    parser.add_argument("-o", metavar="FILE", default=files.STANDARD, help="where to write; else to standard output")
+    parser.add_argument("-o", action=Once, metavar="FILE", default=files.STANDARD, help="where to write; else to standard output")
     parser.set_defaults(run=sheet_run)
     parser = subcommands.add_parser("refusal", help="what a refusal means", description="Says what a refusal means, who can cause it, and where it comes in the order; without a number, of all.", epilog=EPILOG)
     parser.add_argument("numbers", metavar="N", nargs="*", help="its number; its block; of a library number, cell and block")
@@ -351,13 +388,26 @@ def parser_of_all():
     writer(subcommands, "library", LIBRARY, proved.LIBRARY_ENTRY)
     asking(subcommands)
     looking(subcommands)
+    for own in subcommands.choices.values():
+        own.set_defaults(own=own)
     return parser
+
+
+def parsed(words):
+    """What is given; a word too many is told by the subcommand."""
+    given, rest = parser_of_all().parse_known_args(words)
+    if rest:
+        given.own.error(f"there is no `{rest[0]}`")
+    for path in (getattr(given, name, None) for name in ("input", "o", "report")):
+        if path == "":
+            raise Wrong("a file's name is empty")
+    return given
 
 
 def run(words):
     """Runs a command and returns its exit status; a fault is one message."""
     try:
-        given = parser_of_all().parse_args(words)
+        given = parsed(words)
         return given.run(given)
     except (Wrong, proved.Missing) as fault:
         say(str(fault))
@@ -369,6 +419,9 @@ def run(words):
         return ENDED_BY_PIPE
     except OSError as fault:
         say(files.plain(fault))
+        return WRONG_USE
+    except MemoryError:
+        say("there is no memory for this")
         return WRONG_USE
 
 
@@ -387,15 +440,19 @@ def flushed(status):
 
 def main():
     """The command; a closed pipe, Ctrl-C or a signal ends it without a trace, and no file is left half made."""
-    progress.shown = True
+    files.open_error_stream()
     if sys.stdout is None:
         say("standard output is closed")
         os._exit(WRONG_USE)
+    progress.shown = True
     signal.signal(signal.SIGTERM, lambda *_: sys.exit(TERMINATED))
+    signal.signal(signal.SIGHUP, lambda *_: sys.exit(HUNG_UP))
     try:
+        signal.signal(signal.SIGINT, signal.default_int_handler)
         status = run(sys.argv[1:])
     except SystemExit as end:
         status = end.code
     except KeyboardInterrupt:
         status = INTERRUPTED
+    signal.signal(signal.SIGINT, signal.SIG_DFL)
     os._exit(flushed(status))

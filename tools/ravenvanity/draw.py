@@ -1,13 +1,15 @@
 """A GDSII structure, or one structure of a library file, as an SVG picture.
 
-The y axis points upwards, and a grey cross marks the origin. Each layer has a colour of its own, which the list beside the
-picture shows. A path has its width, which is magnified with its structure unless it is negative; path type 1 ends round, 2
-square, all others flat; a path of width 0, or with none, is a thin line. Extensions of paths are not drawn. A text is its
-string at its place, not turned; a node is a dot at each point. A called structure that is in the file is drawn in its
-place: reflected, magnified, turned, then moved; of two of one name the first is meant. Where it is not in the file, or
-calls itself, an instance is a cross with its name, and an array the outlines of its instances: each is the field that one
-column step and one row step span, with a dot at the instance's place. An array of one row or column has no second step, and its fields are square.
+The y axis points upwards, and a grey cross marks the origin. Layers have colours, which the list beside the picture shows.
+A path has its width, which is magnified with its structure unless it is negative; path type 1 ends round, 2 square, all
+others flat; a path of width 0, or with none, is a thin line. Extensions of paths are not drawn. A text is its string at its
+place, in letters of one size, not turned; a node is a dot at each point; a polygon without extent is a cross. A called
+structure that is in the file is drawn in its place: reflected, magnified, turned, then moved; of two of one name the first
+is meant. Where it is not in the file, or calls itself, an instance is a cross with its name, and an array the outlines of
+its instances: each is the field that one column step and one row step span, with a dot at the instance's place. An array of
+one row or column has no second step, and its fields are square.
 
+The picture's own numbers are pixels from its corner, so that a browser draws a plate of decimetres as well as a contact.
 The work is bounded: an array of more than 1,024 instances is one outline with its counts, a call more than 64 deep is a
 cross, and after 100,000 points, references and instances counted with them, nothing more is drawn. What is left out is
 told.
@@ -24,8 +26,8 @@ from .show import Walk, longs, points, real8
 
 PALETTE = ("#1f77b4", "#d62728", "#2ca02c", "#9467bd", "#ff7f0e", "#17becf", "#8c564b", "#e377c2", "#bcbd22", "#393b79")
 MOST_INSTANCES, MOST_POINTS, MOST_DEEP, FARTHEST = 1024, 100000, 64, 1e100
-SIZE = 800  # the longer side, in pixels
-MOST_LISTED = 40  # layers beside the picture
+SIZE, LETTER = 800, 20  # the longer side, and a letter, in pixels
+MOST_LISTED, MOST_WORDS = 40, 400  # layers beside the picture; pixels that words may widen it by
 CAPS = {1: "round", 2: "square"}
 LAYERED = ("polygon", "path", "text", "node")
 NO_TURN = (1.0, 0.0, 0.0, 1.0, 0.0, 0.0)
@@ -97,8 +99,8 @@ class Drawing:
             self.reach(at, margin)
         self.shapes.append((kind, places, layer, others))
 
-    def structure(self, name, turn, above):
-        for kind, found in self.structures[name]:
+    def structure(self, elements, turn, above):
+        for kind, found in elements:
             progress.tick("drawing", min(self.points, MOST_POINTS), MOST_POINTS)
             if kind in ("SREF", "AREF"):
                 self.reference(kind, found, turn, above)
@@ -116,6 +118,8 @@ class Drawing:
             width = -width if width < 0 else width * math.hypot(turn[0], turn[1])
             self.add("path", places, layer, width, width=width, cap=CAPS.get(number(found.get("PATHTYPE", b"")), "butt"))
         elif kind == "TEXT":
+            if "STRANS" in found:
+                self.leave_out("texts' own turning, reflection and magnification")
             presentation = number(found.get("PRESENTATION", b""))
             self.add("text", places, layer, string=found["STRING"].rstrip(b"\0"), vertical=presentation >> 2 & 3, horizontal=presentation & 3)
         else:
@@ -156,7 +160,7 @@ class Drawing:
         if self.spent(1, "instances"):
             return
         if name in self.structures and name not in above and len(above) <= MOST_DEEP:
-            self.structure(name, turn, above | {name})
+            self.structure(self.structures[name], turn, above | {name})
             return
         self.leave_out("structures that are not in the file" if name not in self.structures else
                        "structures that call themselves" if name in above else f"structures called more than {MOST_DEEP} deep")
@@ -172,14 +176,42 @@ class Drawing:
 # ---- the picture
 
 
-def pair(at):
-    return f"{at[0]:.10g},{at[1]:.10g}"
+class Frame:
+    """Where places come to lie, in pixels from the picture's corner."""
+
+    def __init__(self, box):
+        left, low, right, high = box
+        side = max(right - left, high - low)
+        margin = side / 20 or 1.0
+        self.left, self.high, self.pixels = left - margin, high + margin, SIZE / (side + 2 * margin)
+        self.width, self.height = ((extent + 2 * margin) * self.pixels for extent in (right - left, high - low))
+
+    def spot(self, at):
+        return (at[0] - self.left) * self.pixels, (self.high - at[1]) * self.pixels
 
 
-def words_at(at, string, size, anchor="start", shift=0.0, colour="#000"):
-    shown = escape(quoted(string)[1:-1])
-    return (f'<text transform="translate({pair(at)}) scale(1,-1)" font-size="{size:.6g}" dy="{shift * size:.6g}" '
-            f'text-anchor="{anchor}" fill="{colour}">{shown}</text>')
+def framed(drawing):
+    """The frame; the origin is in it unless that more than trebles it."""
+    box = drawing.box or (0.0, 0.0, 0.0, 0.0)
+    wide = min(box[0], 0.0), min(box[1], 0.0), max(box[2], 0.0), max(box[3], 0.0)
+    side, wide_side = (max(b[2] - b[0], b[3] - b[1]) for b in (box, wide))
+    if side > 0 and wide_side > 3 * side:
+        drawing.leave_out("the origin, which lies far off")
+        return Frame(box)
+    return Frame(wide)
+
+
+def pair(spot):
+    return f"{spot[0]:.2f},{spot[1]:.2f}"
+
+
+def readable(string):
+    """A string as its characters, or where it has none for some bytes as the text form has it."""
+    try:
+        text = string.decode("utf-8")
+    except UnicodeDecodeError:
+        text = ""
+    return text if text.isprintable() and (text or not string) else quoted(string)[1:-1]
 
 
 def colour_of(layer):
@@ -190,53 +222,55 @@ def colour_of(layer):
     return f"#{round(255 * red):02x}{round(255 * green):02x}{round(255 * blue):02x}"
 
 
-def drawn(kind, places, layer, others, size):
-    """The lines of a shape; `size` is a letter's, for marks and words."""
-    colour, at = colour_of(layer), places[0]
-    spots = " ".join(map(pair, places))
-    if kind == "polygon":
-        yield f'<polygon points="{spots}" fill="{colour}" fill-opacity="0.35" stroke="{colour}" {THIN}/>'
-    elif kind == "path" and others["width"]:
-        yield (f'<polyline points="{spots}" fill="none" stroke="{colour}" stroke-opacity="0.5" stroke-width="{others["width"]:.10g}" '
-               f'stroke-linecap="{others["cap"]}"/>')
+def words_of(kind, others):
+    """(words, anchor, how far they are moved down in letters) beside a shape, if it has any."""
+    if kind == "text":
+        return readable(others["string"]), ("start", "middle", "end", "end")[others["horizontal"]], (0.75, 0.35, 0.0, 0.0)[others["vertical"]]
+    return readable(others.get("string", b"")), "start", -0.6 if kind == "cross" else -0.3
+
+
+def word_lines(kind, spot, colour, others):
+    words, anchor, shift = words_of(kind, others)
+    if words:
+        yield (f'<text x="{spot[0]:.2f}" y="{spot[1] + shift * LETTER:.2f}" font-size="{LETTER}" text-anchor="{anchor}" fill="{colour}">'
+               f"{escape(words)}</text>")
+
+
+def shape_lines(kind, spots, colour, others, pixels):
+    joined = " ".join(map(pair, spots))
+    if kind == "polygon" and len(set(map(pair, spots))) == 1:
+        yield cross(spots[0], LETTER / 4, colour)
+    elif kind == "polygon":
+        yield f'<polygon points="{joined}" fill="{colour}" fill-opacity="0.35" stroke="{colour}" stroke-width="1"/>'
     elif kind == "path":
-        yield f'<polyline points="{spots}" fill="none" stroke="{colour}" {THIN}/>'
+        width = others["width"] * pixels
+        how = f'stroke-opacity="0.5" stroke-width="{width:.2f}" stroke-linecap="{others["cap"]}"' if width > 0.5 else 'stroke-width="1"'
+        yield f'<polyline points="{joined}" fill="none" stroke="{colour}" {how}/>'
     elif kind == "node":
-        for x, y in places:
-            yield f'<circle cx="{x:.10g}" cy="{y:.10g}" r="{size / 4:.6g}" fill="{colour}"/>'
-    elif kind == "text":
-        anchor, shift = ("start", "middle", "end", "end")[others["horizontal"]], (0.75, 0.35, 0.0, 0.0)[others["vertical"]]
-        yield words_at(at, others["string"], size, anchor, shift, colour)
+        for x, y in spots:
+            yield f'<circle cx="{x:.2f}" cy="{y:.2f}" r="{LETTER / 4}" fill="{colour}"/>'
     elif kind in ("outline", "field"):
-        yield f'<polygon points="{spots}" fill="none" stroke="#555" stroke-dasharray="4" {THIN}/>'
+        yield f'<polygon points="{joined}" fill="none" stroke="#555" stroke-dasharray="4" stroke-width="1"/>'
         if kind == "field":
-            yield f'<circle cx="{at[0]:.10g}" cy="{at[1]:.10g}" r="{size / 8:.6g}" fill="#555"/>'
-        if others["string"]:
-            yield words_at(at, others["string"], size, shift=-0.3, colour="#555")
-    else:
-        yield cross(at, size / 2, "#555")
-        yield words_at(at, others["string"], size, shift=-0.6, colour="#555")
+            yield f'<circle cx="{spots[0][0]:.2f}" cy="{spots[0][1]:.2f}" r="{LETTER / 8}" fill="#555"/>'
+    elif kind == "cross":
+        yield cross(spots[0], LETTER / 2, "#555")
 
 
-THIN = 'stroke-width="1" vector-effect="non-scaling-stroke"'
+def cross(spot, arm, colour):
+    x, y = spot
+    return f'<path d="M{x - arm:.2f},{y:.2f}H{x + arm:.2f}M{x:.2f},{y - arm:.2f}V{y + arm:.2f}" stroke="{colour}" stroke-width="1"/>'
 
 
-def cross(at, arm, colour):
-    x, y = at
-    return f'<path d="M{x - arm:.10g},{y:.10g}H{x + arm:.10g}M{x:.10g},{y - arm:.10g}V{y + arm:.10g}" stroke="{colour}" {THIN}/>'
-
-
-def framed(drawing):
-    """(left, low, width, height) of the picture; the origin is in it unless that more than trebles it."""
-    box = drawing.box or (0.0, 0.0, 0.0, 0.0)
-    wide = min(box[0], 0.0), min(box[1], 0.0), max(box[2], 0.0), max(box[3], 0.0)
-    side, wide_side = (max(b[2] - b[0], b[3] - b[1]) for b in (box, wide))
-    if side > 0 and wide_side > 3 * side:
-        drawing.leave_out("the origin, which lies far off")
-    else:
-        box, side = wide, wide_side
-    margin = side / 20 or 1.0
-    return box[0] - margin, box[1] - margin, box[2] - box[0] + 2 * margin, box[3] - box[1] + 2 * margin
+def overhang(drawing, frame):
+    """How far words reach beyond the frame to the left and to the right."""
+    left, right = 0.0, frame.width
+    for kind, places, _, others in drawing.shapes:
+        words, anchor, _ = words_of(kind, others)
+        length, x = min(MOST_WORDS, 0.6 * LETTER * len(words)), frame.spot(places[0])[0]
+        start = x - length * {"start": 0.0, "middle": 0.5, "end": 1.0}[anchor]
+        left, right = min(left, start), max(right, start + length)
+    return left, right
 
 
 def listed(drawing):
@@ -245,29 +279,31 @@ def listed(drawing):
     return [(f"layer {layer}", colour_of(layer)) for layer in layers[:MOST_LISTED]] + [("and others", "#555")] * bool(layers[MOST_LISTED:])
 
 
-def list_lines(words, left, top, size):
+def list_lines(words, left):
     for k, (word, colour) in enumerate(words):
-        y = top + 1.5 * (k + 1) * size
-        yield f'<rect x="{left:.10g}" y="{y - size:.10g}" width="{size:.6g}" height="{size:.6g}" fill="{colour}" fill-opacity="0.6"/>'
-        yield f'<text x="{left + 1.4 * size:.10g}" y="{y - 0.1 * size:.10g}" font-size="{size:.6g}" fill="#000">{word}</text>'
+        y = 1.5 * (k + 1) * LETTER
+        yield f'<rect x="{left:.2f}" y="{y - LETTER:.2f}" width="{LETTER}" height="{LETTER}" fill="{colour}" fill-opacity="0.6"/>'
+        yield f'<text x="{left + 1.4 * LETTER:.2f}" y="{y - 0.1 * LETTER:.2f}" font-size="{LETTER}" fill="#000">{word}</text>'
 
 
 def picture(drawing, name):
-    left, low, width, height = framed(drawing)
-    longer, words = max(width, height), listed(drawing)
-    pixels, size, top = SIZE / longer, longer / 40, -low - height
-    wide, high = width + 7 * size, max(height, 1.5 * (len(words) + 1) * size)
-    yield (f'<svg xmlns="http://www.w3.org/2000/svg" width="{max(1, round(wide * pixels))}" height="{max(1, round(high * pixels))}" '
-           f'viewBox="{left:.10g} {top:.10g} {wide:.10g} {high:.10g}" font-family="sans-serif">')
-    yield f"<title>{escape(quoted(name)[1:-1])}</title>"
-    yield f'<rect x="{left:.10g}" y="{top:.10g}" width="{wide:.10g}" height="{high:.10g}" fill="#fff"/>'
-    yield '<g transform="scale(1,-1)">'
+    frame, words = framed(drawing), listed(drawing)
+    left, right = overhang(drawing, frame)
+    width, height = math.ceil(right - left + 7 * LETTER), math.ceil(max(frame.height, 1.5 * (len(words) + 1) * LETTER))
+    yield (f'<svg xmlns="http://www.w3.org/2000/svg" width="{width}" height="{height}" '
+           f'viewBox="{left:.2f} 0 {width} {height}" font-family="sans-serif">')
+    yield f"<title>{escape(readable(name))}</title>"
+    yield f'<rect x="{left:.2f}" y="0" width="{width}" height="{height}" fill="#fff"/>'
     for kind, places, layer, others in drawing.shapes:
-        yield from drawn(kind, places, layer, others, size)
-    yield cross((0.0, 0.0), size, "#777")
-    yield "</g>"
-    yield from list_lines(words, left + width, top, size)
+        spots, colour = [frame.spot(at) for at in places], colour_of(layer) if kind in LAYERED else "#555"
+        yield from shape_lines(kind, spots, colour, others, frame.pixels)
+        yield from word_lines(kind, spots[0], colour, others)
+    yield cross(frame.spot((0.0, 0.0)), LETTER, "#777")
+    yield from list_lines(words, right)
     yield "</svg>"
+
+
+# ---- the stream
 
 
 def stream_of(data):
@@ -287,9 +323,9 @@ def draw(data, name=None):
     names = [each for each, _ in walk.structures]
     if not names:
         raise Fault("the library has no structure to draw")
-    wanted = names[-1] if name is None else name.encode()
-    if wanted not in names:
-        raise Fault(f"there is no structure {quoted(wanted)}; there are {', '.join(map(quoted, names[:20]))}{' and others' if names[20:] else ''}")
+    if name is not None and name not in names:
+        raise Fault(f"there is no structure {quoted(name)}; there are {', '.join(map(quoted, names[:20]))}{' and others' if names[20:] else ''}")
+    wanted, elements = walk.structures[-1 if name is None else names.index(name)]
     drawing = Drawing(walk.structures)
-    drawing.structure(wanted, NO_TURN, frozenset([wanted]))
+    drawing.structure(elements, NO_TURN, frozenset([wanted]))
     return list(picture(drawing, wanted)), drawing.left_out

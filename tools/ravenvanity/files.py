@@ -2,18 +2,27 @@
 import contextlib
 import errno
 import os
+import shutil
 import signal
 import sys
 import tempfile
 
 STANDARD = "-"
+ENDING = (signal.SIGINT, signal.SIGTERM, signal.SIGHUP)
+BESIDE = ".ravenvanity."  # how the name of a file begins that is made beside another
 
 
 def plain(fault):
     """What a fault says, without an error number."""
     if isinstance(fault, OSError):
-        return f"{fault.filename or 'standard output'}: {fault.strerror}"
+        return f"{'standard output' if fault.filename is None else fault.filename}: {fault.strerror}"
     return str(fault)
+
+
+def open_error_stream():
+    """Where standard error is closed, what is said goes nowhere, and not to standard output."""
+    if sys.stderr is None:
+        sys.stderr = open(os.devnull, "w")
 
 
 def end_with_the_pipe():
@@ -25,17 +34,24 @@ def name_of(path):
     return "standard input" if path == STANDARD else path
 
 
+@contextlib.contextmanager
+def naming(path):
+    """An error of the system names the file that was asked for."""
+    try:
+        yield
+    except OSError as fault:
+        raise OSError(fault.errno, fault.strerror, path) from None
+
+
 def read_input(path):
     """A file's bytes; `-` is standard input."""
-    try:
-        if path == STANDARD:
-            if sys.stdin is None:
-                raise OSError(errno.EBADF, "it is closed")
-            return sys.stdin.buffer.read()
-        with open(path, "rb") as f:
-            return f.read()
-    except OSError as fault:
-        raise OSError(fault.errno, fault.strerror, name_of(path)) from None
+    with naming(name_of(path)):
+        if path != STANDARD:
+            with open(path, "rb") as f:
+                return f.read()
+        if sys.stdin is None:
+            raise OSError(errno.EBADF, "it is closed")
+        return sys.stdin.buffer.read()
 
 
 def write_output(data):
@@ -50,6 +66,16 @@ def is_replaced(path):
     return os.path.isfile(path) or not os.path.exists(path)
 
 
+@contextlib.contextmanager
+def held():
+    """What would end the command waits."""
+    before = signal.pthread_sigmask(signal.SIG_BLOCK, ENDING)
+    try:
+        yield
+    finally:
+        signal.pthread_sigmask(signal.SIG_SETMASK, before)
+
+
 def mode_of(target):
     """That of the file whose place is taken, else what a new file gets."""
     if os.path.exists(target):
@@ -59,54 +85,88 @@ def mode_of(target):
     return 0o666 & ~mask
 
 
-def made_beside(target, data):
-    """A file of these bytes in the same folder; its name."""
-    number, made = tempfile.mkstemp(prefix=f".{os.path.basename(target)}.", dir=os.path.dirname(target) or ".")
-    try:
+class Replacement:
+    """A file that is made beside its place, takes it, and gives it back."""
+
+    def __init__(self, path):
+        self.path, self.target = path, os.path.realpath(path)
+        self.made = self.kept = None
+        self.taken = False
+
+    def make(self, data):
+        if os.path.exists(self.target) and not os.access(self.target, os.W_OK):
+            raise OSError(errno.EACCES, os.strerror(errno.EACCES))
+        with held():
+            number, self.made = tempfile.mkstemp(prefix=BESIDE, dir=os.path.dirname(self.target))
         with open(number, "wb") as out:
             out.write(data)
             out.flush()
             os.fsync(out.fileno())
-        os.chmod(made, mode_of(target))
-    except BaseException:
-        os.remove(made)
-        raise
-    return made
+        os.chmod(self.made, mode_of(self.target))
+
+    def keep(self):
+        """What was there gets a second name, for the case that another file cannot be written."""
+        if os.path.exists(self.target):
+            self.kept = f"{self.made}.kept"
+            try:
+                os.link(self.target, self.kept)
+            except OSError:
+                shutil.copy2(self.target, self.kept)
+
+    def take(self):
+        os.replace(self.made, self.target)
+        self.made, self.taken = None, True
+
+    def give_back(self):
+        if self.kept:
+            os.replace(self.kept, self.target)
+            self.kept = None
+        elif self.taken:
+            os.remove(self.target)
+
+    def clean(self):
+        for name in (self.made, self.kept):
+            with contextlib.suppress(OSError):
+                if name:
+                    os.remove(name)
 
 
-@contextlib.contextmanager
-def naming(path):
-    """An error of the system names the file that was asked for."""
+def take_places(replacements):
+    """All take their places, or none does."""
     try:
-        yield
-    except OSError as fault:
-        raise OSError(fault.errno, fault.strerror, path) from None
+        for each in replacements:
+            with naming(each.path):
+                if len(replacements) > 1:
+                    each.keep()
+                each.take()
+    except OSError:
+        for each in replacements:
+            if each.taken:
+                each.give_back()
+        raise
 
 
 def write_all(files):
-    """Writes (path, bytes) of each, none unless there is room for all; `-` is standard output, and comes last."""
-    made = []
+    """Writes (path, bytes) of each, none unless there is room for all; `-` is standard output. What is no file is written before any takes its place."""
+    replacements = []
     try:
         for path, data in files:
             if path != STANDARD and is_replaced(path):
+                replacements.append(Replacement(path))
                 with naming(path):
-                    target = os.path.realpath(path)
-                    made.append((path, made_beside(target, data), target))
+                    replacements[-1].make(data)
         for path, data in files:
-            with naming(name_of(path) if path != STANDARD else None):
-                if path == STANDARD:
-                    write_output(data)
-                elif not is_replaced(path):
-                    with open(path, "wb") as out:
-                        out.write(data)
-        while made:
-            path, beside, target = made[0]
-            with naming(path):
-                os.replace(beside, target)
-            made.pop(0)
+            if path == STANDARD:
+                write_output(data)
+            elif not is_replaced(path):
+                with naming(path), open(path, "wb") as out:
+                    out.write(data)
+        with held():
+            take_places(replacements)
     finally:
-        for _, beside, _ in made:
-            os.remove(beside)
+        with held():
+            for each in replacements:
+                each.clean()
 
 
 def write_whole(path, data):

@@ -8,6 +8,7 @@ from . import sheet as form
 
 POLICIES = {"nearest": 0, "floor": 1, "ceiling": 2, "strict": 3}
 CELL, LIBRARY = "cell", "library"
+WRITERS = {CELL: "write", LIBRARY: "library"}
 MAX_SHEET = 2**32 - 1  # that the pairs' offsets can name
 FRONT = 9  # bytes before the sheet in the input of the program `structure`
 # of each: the text read, its sheet; the sheet read, its lines
@@ -87,9 +88,10 @@ def decoded(data, name):
 def sheet_of_text(data, name, kind, sines):
     """The sheet of a text, whose first word says of what; `kind` is what it must be, where that is known."""
     text = decoded(data, name)
-    own = LIBRARY if FIRST_WORD.match(text).group(1) == LIBRARY else CELL
-    if kind == CELL and own == LIBRARY:
-        raise Unreadable(f"{name} is the text of a library, which `ravenvanity library` writes")
+    word = FIRST_WORD.match(text).group(1)
+    own = LIBRARY if word == LIBRARY else CELL
+    if kind and kind != own and word in (CELL, LIBRARY):
+        raise Unreadable(f"{name} is the text of a {own}, which `ravenvanity {WRITERS[own]}` writes")
     read_text, bytes_of = TEXTS[kind or own]
     try:
         return bytes_of(read_text(text, sines))

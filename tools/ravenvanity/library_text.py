@@ -12,7 +12,7 @@ class LibraryReader:
     def take(self, tokens, line):
         word = tokens[0]
         if (self.name is None) != (word == "library"):
-            raise Wrong("the first line is `library`" if self.name is None else "a second `library`")
+            raise Wrong(f"the first line must be `library`, not `{shown(word)}`" if self.name is None else "a second `library`")
         if word == "library":
             arity(tokens, 1)
             self.name, self.line = string(tokens[1], "the library's name"), line

@@ -2,14 +2,16 @@
 
 The answers are the library's: nothing is decided here. A C compiler links it, once for each build of the library.
 """
+import contextlib
 import ctypes
+import glob
+import hashlib
 import os
 import subprocess
 
 ROOT = os.path.dirname(os.path.dirname(os.path.dirname(os.path.realpath(__file__))))
 TARGET = os.path.join(ROOT, "target", "staticlib")
 ARCHIVE = os.path.join(TARGET, "libravenvanity.a")
-SHARED = os.path.join(TARGET, "libravenvanity.so")
 ENTRY, LIBRARY_ENTRY = 33, 37
 BYTES, DOUBLE, SIZE = ctypes.c_char_p, ctypes.c_double, ctypes.c_size_t
 LENT = [BYTES, SIZE]  # a slice: its address and its length
@@ -29,22 +31,6 @@ class Missing(Exception):
     """The library cannot be had, and why."""
 
 
-def link():
-    """Makes the shared object, whole or not at all."""
-    made = f"{SHARED}.{os.getpid()}"
-    try:
-        command = ["cc", "-shared", "-o", made, "-Wl,--whole-archive", ARCHIVE, "-Wl,--no-whole-archive"]
-        ran = subprocess.run(command, stdout=subprocess.PIPE, stderr=subprocess.STDOUT, text=True)
-        if ran.returncode != 0:
-            raise Missing(f"cc does not link {ARCHIVE}: {''.join(ran.stdout.strip().splitlines()[-1:])}")
-        os.replace(made, SHARED)
-    except FileNotFoundError:
-        raise Missing("cc is not on the PATH: a C compiler is needed to link the library") from None
-    finally:
-        if os.path.exists(made):
-            os.remove(made)
-
-
 def archive():
     """The static library's bytes."""
     if not os.path.exists(ARCHIVE):
@@ -53,13 +39,46 @@ def archive():
         return f.read()
 
 
-def load():
-    """The library, linked anew where it was built anew."""
-    archive()
+def archive_sum():
+    return hashlib.sha256(archive()).hexdigest()
+
+
+def linked(path):
+    """Whether cc links the archive to this file, and what it says last."""
+    command = ["cc", "-shared", "-o", path, "-Wl,--whole-archive", ARCHIVE, "-Wl,--no-whole-archive"]
     try:
-        if not os.path.exists(SHARED) or os.path.getmtime(SHARED) < os.path.getmtime(ARCHIVE):
-            link()
-        library = ctypes.CDLL(SHARED)
+        ran = subprocess.run(command, stdout=subprocess.PIPE, stderr=subprocess.STDOUT, text=True, errors="replace")
+    except FileNotFoundError:
+        raise Missing("cc is not on the PATH: a C compiler is needed to link the library") from None
+    return ran.returncode == 0, "; ".join(ran.stdout.strip().splitlines()[-2:])
+
+
+def link(shared):
+    """Makes the shared object, whole or not at all, and removes those of other archives."""
+    if not os.access(TARGET, os.W_OK):
+        raise Missing(f"{os.path.relpath(TARGET)} cannot be written, and the shared object is to be linked there: `ravenvanity prepare`, by whoever may, does it")
+    made = f"{shared}.{os.getpid()}"
+    try:
+        done, said = linked(made)
+        if not done:
+            raise Missing(f"cc does not link {os.path.relpath(ARCHIVE)}: {said}")
+        os.replace(made, shared)
+    finally:
+        if os.path.exists(made):
+            os.remove(made)
+    for other in glob.glob(os.path.join(glob.escape(TARGET), "libravenvanity.*.so")):
+        with contextlib.suppress(OSError):
+            if other != shared:
+                os.remove(other)
+
+
+def load():
+    """The library, in a shared object that is named for the archive it was linked from: none of another archive is ever loaded."""
+    shared = os.path.join(TARGET, f"libravenvanity.{archive_sum()[:16]}.so")
+    try:
+        if not os.path.exists(shared):
+            link(shared)
+        library = ctypes.CDLL(shared)
     except OSError as fault:
         raise Missing(str(fault)) from None
     for name, types in FUNCTIONS.items():

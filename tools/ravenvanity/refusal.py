@@ -11,8 +11,8 @@ TABLE = {
     3: (CALLER, "the sheet is over 16,777,216 bytes", "after 2", ONCE),
     4: (SHEET_MAKER, "the pairs are ill-formed: count outside 1 to 16,384, a pair missing, an offset that is not where the block "
         "before ends, a length of 0, or a last block that does not end with the sheet", "after 3; all pairs before any block", ONCE),
-    5: (SHEET_MAKER, "the block is ill-formed: too short, too long, or a code that is unknown (element kind, coordinate kind, path "
-        "type, presentation, reflection), or a coordinate absent where it may not be", "first in its block", ANY),
+    5: (SHEET_MAKER, "the block is ill-formed: too short, too long, a code that is unknown (element kind, coordinate kind, path type, presentation, "
+        "reflection), an integer whose four upper bytes are not zero, a coordinate absent where it may not be, or absent but not zero bytes", "first in its block", ANY),
     6: (DESIGNER, "a stamp is no date and time of the years 1 to 9999, and the twelve numbers are not all zero", "in the head, after its 5", HEAD),
     7: (DESIGNER, "a structure name is not 1 to 32 of A-Z a-z 0-9 _ ? $: in block 0 the cell's own, else the called one",
         "in the head after 6; in a reference first after its 5", ANY),

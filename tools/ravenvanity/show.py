@@ -37,6 +37,7 @@ ELEMENTS = {
 }
 POINTS = {"TEXT": 1, "SREF": 1, "AREF": 3}
 KINDS = {1: "polygon", 2: "path", 3: "text", 4: "node", 5: "reference"}
+KIND_OF = {"BOUNDARY": 1, "PATH": 2, "TEXT": 3, "NODE": 4, "SREF": 5, "AREF": 5}
 FIELDS = ("point", "width", "begin extension", "end extension", "origin", "turned column spacing", "turned row spacing",
           "column endpoint", "row endpoint")
 AXES = ("x", "y", "")
@@ -244,34 +245,46 @@ class Walk:
 # ---- report entries
 
 
-def entry_words(data, at=0):
+def entry_words(data, at, structure):
+    """A cell's entry in words; it must be of an element that the structure has, where that is known."""
     index, kind, field, axis, place, count, p, q, error = struct.unpack(">IBBBHIdid", data)
     if kind not in KINDS or field >= len(FIELDS) or axis >= len(AXES):
         where, what, value = ((4, "element kind", kind) if kind not in KINDS else
                               (5, "field", field) if field >= len(FIELDS) else (6, "axis", axis))
-        raise Damage(f"byte {at + where}: report entry: {what} {value} is unknown")
+        hint = "" if structure else "; a library's report is shown with its file"
+        raise Damage(f"byte {at + where}: report entry: {what} {value} is unknown{hint}")
+    if structure and (index >= len(structure[1]) or KIND_OF[structure[1][index][0]] != kind):
+        raise Damage(f"byte {at}: report entry: structure {quoted(structure[0])} has no element {index} that is a {KINDS[kind]}, so this is another's report")
     spot = f"point {place} {AXES[axis]}" if field == 0 else f"{FIELDS[field]} {AXES[axis]}".rstrip()
     return f"element {index} ({KINDS[kind]}): {many(count, 'value')} affected, worst {spot}: p {p!r}, q {q}, error {error!r}"
 
 
-def library_entry_words(data, names, at=0):
+def library_entry_words(data, at, structures):
     cell = int.from_bytes(data[:4], "big")
-    if cell >= len(names):
-        raise Damage(f"byte {at}: report entry: cell {cell}, and the library has {many(len(names), 'cell')}")
-    return f"cell {cell} ({quoted(names[cell])}), {entry_words(data[4:], at + 4)}"
+    if cell >= len(structures):
+        raise Damage(f"byte {at}: report entry: cell {cell}, and the library has {many(len(structures), 'cell')}")
+    return f"cell {cell} ({quoted(structures[cell][0])}), {entry_words(data[4:], at + 4, structures[cell])}"
 
 
-def entries(data, say, names=None):
-    """Entries of a cell; of a library, where its cells' names are given."""
-    size = ENTRY if names is None else LIBRARY_ENTRY
+def entries(data, say, shown=None):
+    """Entries in words; `shown` is what `stream_lines` gave of their stream."""
+    library, structures = shown or (False, [None])
+    size = LIBRARY_ENTRY if library else ENTRY
     for at in range(0, len(data), size):
         if len(data) - at < size:
             raise Damage(f"byte {at}: a report entry has {size} bytes, {len(data) - at} are left")
         one = data[at:at + size]
-        say(entry_words(one, at) if names is None else library_entry_words(one, names, at))
+        say(library_entry_words(one, at, structures) if library else entry_words(one, at, structures[0]))
 
 
 # ---- input
+
+
+def stream_lines(stream, say):
+    """(whether it is a library file, its structures), record by record."""
+    walk = Walk(stream, say)
+    walk.whole()
+    return is_library(stream), walk.structures
 
 
 def accepted(lines, say):
@@ -282,14 +295,13 @@ def accepted(lines, say):
         raise Damage(f"line 1 says {length} bytes and {count} entries; there are {len(stream)} and {len(rest)}")
     greatest = struct.unpack(">d", unhexed(error, "line 1"))[0]
     say(f"accepted: {many(len(stream), 'byte')}, {many(len(rest), 'report entry').replace('entrys', 'entries')}, greatest error {greatest!r}")
-    walk = Walk(stream, say)
-    walk.whole()
-    names = [name for name, _ in walk.structures] if is_library(stream) else None
-    size = ENTRY if names is None else LIBRARY_ENTRY
+    shown = stream_lines(stream, say)
+    size = LIBRARY_ENTRY if shown[0] else ENTRY
     for k, entry in enumerate(rest, 3):
         if len(entry) != size:
             raise Damage(f"line {k}: a report entry has {size} bytes, not {len(entry)}")
-        entries(entry, say, names)
+        entries(entry, say, shown)
+    return shown
 
 
 NO_ANSWER = {"short": "no answer: under 9 bytes of input", "long": "no answer: over 24,576 bytes of sheet"}
@@ -298,30 +310,21 @@ NO_ANSWER = {"short": "no answer: under 9 bytes of input", "long": "no answer: o
 def program_lines(lines, say):
     """The lines of the program, or of a stored library: `ok`, the stream, the entries; or a refusal."""
     first = lines[0]
+    if re.fullmatch(r"ok \d+ \d+ [0-9a-f]{16}", first) and len(lines) > 1:
+        return accepted(lines, say)
     if first in NO_ANSWER:
         say(NO_ANSWER[first])
     elif re.fullmatch(r"no \d+ \d+", first):
         say("refused: number {1}, block {2} (`ravenvanity refusal {1} {2}` says what that means)".format(*first.split(" ")))
     elif re.fullmatch(r"no \d+ \d+ \d+", first):
         say("refused: number {1}, cell {2}, block {3} (`ravenvanity refusal {1} {2} {3}` says what that means)".format(*first.split(" ")))
-    elif re.fullmatch(r"ok \d+ \d+ [0-9a-f]{16}", first) and len(lines) > 1:
-        accepted(lines, say)
     else:
         raise Damage(f"line 1: `ok` with length, entries and error bits, then a stream, or `no` with number and block, not `{first[:60]}`")
+    return None
 
 
-def explain(data, report, say):
-    if report:
-        entries(raw(data), say)
-    elif data[:3] in (b"ok ", b"no ") or data.strip() in (b"short", b"long"):
-        program_lines(data.decode("ascii", "replace").rstrip("\n").split("\n"), say)
-    else:
-        Walk(raw(data), say).whole()
-
-
-def with_report(data, report, say):
-    """A structure or a library file, then its report in words."""
-    stream = raw(data)
-    walk = Walk(stream, say)
-    walk.whole()
-    entries(raw(report), say, [name for name, _ in walk.structures] if is_library(stream) else None)
+def explain(data, say):
+    """What is in a file: a stream, or the program's lines. What `stream_lines` gives, if there is a stream."""
+    if data[:3] in (b"ok ", b"no ") or data.strip() in (b"short", b"long"):
+        return program_lines(data.decode("ascii", "replace").rstrip("\n").split("\n"), say)
+    return stream_lines(raw(data), say)

@@ -1,0 +1,227 @@
+// A test of ravenvanity_write.h, and of the lines of ravenvanity_report.h. Prints nothing on standard output; status 1 where
+// something is not as it must be.
+#include "ravenvanity_report.h"
+#include "ravenvanity_sheet.h"
+#include <math.h>
+#include <stdbool.h>
+#include <stdint.h>
+#include <stdio.h>
+#include <stdlib.h>
+#include <string.h>
+
+static bool memory_left = true;
+
+static void *failing_malloc(size_t length) {
+    return memory_left ? malloc(length) : NULL;
+}
+
+#define malloc failing_malloc
+#include "ravenvanity_write.h"
+#undef malloc
+
+static int missed;
+
+static void hold(const char *what, bool right) {
+    if (right)
+        return;
+    fprintf(stderr, "write_test: %s\n", what);
+    missed++;
+}
+
+// ---- lines
+
+static void hold_text(const char *wanted, size_t length, const char *text) {
+    if (length == strlen(wanted) && strcmp(text, wanted) == 0)
+        return;
+    fprintf(stderr, "write_test: \"%s\" is not \"%s\"\n", text, wanted);
+    missed++;
+}
+
+static void test_entry(const char *wanted, struct ravenvanity_entry entry) {
+    char words[RAVENVANITY_WORDS_ROOM];
+    hold_text(wanted, ravenvanity_entry_words(&entry, words, sizeof words), words);
+}
+
+static const struct ravenvanity_entry ENTRY = {
+    .cell = RAVENVANITY_NO_CELL, .kind = RAVENVANITY_KIND_REFERENCE, .field = RAVENVANITY_FIELD_COLUMN_ENDPOINT,
+    .affected = 4, .physical = 42.5, .database = 45, .error = 2.5,
+};
+static const char ENTRY_WORDS[] = "element 0 (reference): 4 values affected, worst column endpoint x: p 42.5, q 45, error 2.5";
+
+static void test_entries(void) {
+    test_entry(ENTRY_WORDS, ENTRY);
+    test_entry("cell 7, element 4294967295 (polygon): 1 value affected, worst point 65535 y: p -1.5, q -2147483648, error 0.5",
+               (struct ravenvanity_entry){7, UINT32_MAX, 1, 0, 1, 65535, 1, -1.5, INT32_MIN, 0.5});
+    test_entry("cell 0, element 2 (path): 0 values affected, worst begin extension: p nan, q 0, error inf",
+               (struct ravenvanity_entry){0, 2, 2, 2, 2, 0, 0, NAN, 0, INFINITY});
+    test_entry("element 0 (unknown kind): 0 values affected, worst unknown field unknown axis: p -0, q 0, error -inf",
+               (struct ravenvanity_entry){RAVENVANITY_NO_CELL, 0, 0, 9, 3, 1, 0, -0.0, 0, -INFINITY});
+}
+
+// Into rooms up to that of the whole: what is behind them stays.
+static void test_sizes(void) {
+    const size_t whole = sizeof ENTRY_WORDS;
+    hold("no room", ravenvanity_entry_words(&ENTRY, NULL, 0) == whole - 1);
+    for (size_t size = 0; size <= whole; size++) {
+        char words[sizeof ENTRY_WORDS + 1], wanted[sizeof ENTRY_WORDS + 1];
+        memset(words, '#', sizeof words);
+        memset(wanted, '#', sizeof wanted);
+        memcpy(wanted, ENTRY_WORDS, size);
+        if (size > 0)
+            wanted[size - 1] = '\0';
+        hold("the length that is needed", ravenvanity_entry_words(&ENTRY, words, size) == whole - 1);
+        hold("a text cut short", memcmp(words, wanted, sizeof words) == 0);
+    }
+}
+
+static void test_double(const char *wanted, double value) {
+    char words[RAVENVANITY_DOUBLE_ROOM];
+    ravenvanity_double_words(value, words);
+    hold_text(wanted, strlen(words), words);
+}
+
+static void test_doubles(void) {
+    test_double("0", 0);
+    test_double("0.1", 0.1);
+    test_double("100000000000000", 1e14);
+    test_double("3.99999999999183e-10", 3.99999999999183e-10);  // 15 digits
+    test_double("2.999999999999431e-10", 2.999999999999431e-10); // 16
+    test_double("0.30000000000000004", 0.1 + 0.2);               // 17
+    test_double("-1.7976931348623157e+308", -1.7976931348623157e308);
+    test_double("4.94065645841247e-324", 4.9406564584124654e-324);
+}
+
+static void test_line(const char *where, uint8_t number, size_t block) {
+    char wanted[RAVENVANITY_WORDS_ROOM], line[RAVENVANITY_WORDS_ROOM];
+    snprintf(wanted, sizeof wanted, "%s: %s", where, ravenvanity_refusal_words(number));
+    hold_text(wanted, ravenvanity_refusal_line(number, block, line, sizeof line), line);
+}
+
+static void test_library_line(const char *where, uint8_t number, size_t cell, size_t block) {
+    char wanted[RAVENVANITY_WORDS_ROOM], line[RAVENVANITY_WORDS_ROOM];
+    snprintf(wanted, sizeof wanted, "%s: %s", where, ravenvanity_refusal_words(number));
+    hold_text(wanted, ravenvanity_library_refusal_line(number, cell, block, line, sizeof line), line);
+}
+
+static void test_lines(void) {
+    char line[RAVENVANITY_WORDS_ROOM];
+    hold_text("refusal 21: the output is too short for what is to be written", ravenvanity_refusal_line(21, 0, line, sizeof line), line);
+    test_line("refusal 18, block 2", 18, 2);
+    test_line("refusal 5, block 0", 5, 0);
+    test_line("refusal 6, block 0", 6, 0);
+    test_line("refusal 7, block 0", 7, 0);
+    test_library_line("refusal 18, cell 0, block 1", 18, 0, 1);
+    test_library_line("refusal 4, cell 3", 4, 3, 0);
+    test_library_line("refusal 6, cell 1, block 0", 6, 1, 0);
+    test_library_line("refusal 6", 6, RAVENVANITY_NO_CELL, 0);
+    test_library_line("refusal 23", 23, RAVENVANITY_NO_CELL, 0);
+    char cut[8] = "#######";
+    size_t needed = ravenvanity_refusal_line(33, 0, cut, 5);
+    hold("a refusal cut short", memcmp(cut, "refu\0##", 8) == 0);
+    hold("the length of a refusal", needed == strlen("refusal 33: ") + strlen(ravenvanity_refusal_words(33)));
+    for (unsigned number = 0; number < 256; number++)
+        hold("RAVENVANITY_WORDS_ROOM",
+             ravenvanity_library_refusal_line((uint8_t)number, SIZE_MAX, SIZE_MAX, NULL, 0) < RAVENVANITY_WORDS_ROOM);
+}
+
+// ---- writing
+
+static void add_node(struct ravenvanity_sheet *sheet, double x) {
+    const double xy[2] = {x, 0};
+    ravenvanity_add_node(sheet, 1, 0, ravenvanity_doubles(xy, 1, 1));
+}
+
+// A cell of two nodes, the second at x.
+static struct ravenvanity_sheet cell_sheet(double x) {
+    struct ravenvanity_sheet sheet = ravenvanity_new_sheet();
+    ravenvanity_start_cell(&sheet, "A", NULL);
+    add_node(&sheet, 1);
+    add_node(&sheet, x);
+    hold("a cell sheet", ravenvanity_finish(&sheet) == RAVENVANITY_NO_FAULT);
+    return sheet;
+}
+
+// A library of an empty cell, and one of a node at x.
+static struct ravenvanity_sheet library_sheet(double x) {
+    struct ravenvanity_sheet sheet = ravenvanity_new_sheet();
+    ravenvanity_start_library(&sheet, "L", 0.001, NULL);
+    ravenvanity_start_cell(&sheet, "A", NULL);
+    ravenvanity_start_cell(&sheet, "B", NULL);
+    add_node(&sheet, x);
+    hold("a library sheet", ravenvanity_finish(&sheet) == RAVENVANITY_NO_FAULT);
+    return sheet;
+}
+
+typedef struct ravenvanity_written writer(const uint8_t *, size_t, uint8_t, double);
+
+static struct ravenvanity_written written(writer *write, struct ravenvanity_sheet sheet, uint8_t policy) {
+    struct ravenvanity_written to = write(sheet.bytes, sheet.length, policy, 1);
+    ravenvanity_free(&sheet);
+    return to;
+}
+
+// The bytes end with those of an ENDSTR or an ENDLIB, and the entries have their length.
+static void accepted(const char *what, struct ravenvanity_written to, uint8_t end, size_t entries, size_t entry_length) {
+    hold(what, to.bytes != NULL && !to.no_memory && to.number == 0 && to.block == 0);
+    hold(what, to.length > 4 && memcmp(to.bytes + to.length - 4, (uint8_t[]){0, 4, end, 0}, 4) == 0);
+    hold(what, to.report != NULL && to.entries == entries && to.report_length == entries * entry_length);
+    hold(what, to.greatest == (entries == 0 ? 0 : 0.5));
+    ravenvanity_free_written(&to);
+    hold(what, to.bytes == NULL && to.length == 0);
+    ravenvanity_free_written(&to);
+}
+
+static void refused(const char *what, struct ravenvanity_written to, uint8_t number, size_t cell, size_t block) {
+    hold(what, !to.no_memory && to.number == number && to.cell == cell && to.block == block);
+    hold(what, to.bytes == NULL && to.report == NULL && to.length + to.report_length + to.entries == 0 && to.greatest == 0);
+    ravenvanity_free_written(&to);
+}
+
+static void test_accepted(void) {
+    accepted("a cell", written(ravenvanity_write_new_cell, cell_sheet(1.5), RAVENVANITY_NEAREST), 7, 1, 33);
+    accepted("a cell without a report", written(ravenvanity_write_new_cell, cell_sheet(2), RAVENVANITY_STRICT), 7, 0, 33);
+    accepted("a library", written(ravenvanity_write_new_library, library_sheet(1.5), RAVENVANITY_FLOOR), 4, 1, 37);
+    accepted("a library without a report", written(ravenvanity_write_new_library, library_sheet(2), RAVENVANITY_STRICT), 4, 0, 37);
+    struct ravenvanity_written to = written(ravenvanity_write_new_library, library_sheet(1.5), RAVENVANITY_FLOOR);
+    struct ravenvanity_entry entry;
+    size_t at = 0;
+    hold("an entry", ravenvanity_next_library_entry(to.report, to.report_length, &at, &entry));
+    test_entry("cell 1, element 0 (node): 1 value affected, worst point 0 x: p 1.5, q 1, error 0.5", entry);
+    hold("no more entries", !ravenvanity_next_library_entry(to.report, to.report_length, &at, &entry));
+    ravenvanity_free_written(&to);
+}
+
+static void test_refused(void) {
+    refused("a strict cell", written(ravenvanity_write_new_cell, cell_sheet(1.5), RAVENVANITY_STRICT), 18, RAVENVANITY_NO_CELL, 2);
+    refused("a strict library", written(ravenvanity_write_new_library, library_sheet(1.5), RAVENVANITY_STRICT), 18, 1, 1);
+    refused("policy 4", written(ravenvanity_write_new_library, library_sheet(1.5), 4), 1, RAVENVANITY_NO_CELL, 0);
+    struct ravenvanity_sheet none = ravenvanity_new_sheet();
+    refused("no cell sheet", written(ravenvanity_write_new_cell, none, RAVENVANITY_NEAREST), 4, RAVENVANITY_NO_CELL, 0);
+    refused("no library sheet", written(ravenvanity_write_new_library, none, RAVENVANITY_NEAREST), 23, RAVENVANITY_NO_CELL, 0);
+}
+
+static void no_room(const char *what, struct ravenvanity_written to) {
+    hold(what, to.no_memory);
+    to.no_memory = false;
+    refused(what, to, 0, RAVENVANITY_NO_CELL, 0);
+}
+
+// A refusal takes no memory.
+static void test_memory(void) {
+    memory_left = false;
+    no_room("a cell without memory", written(ravenvanity_write_new_cell, cell_sheet(1.5), RAVENVANITY_NEAREST));
+    no_room("a library without memory", written(ravenvanity_write_new_library, library_sheet(1.5), RAVENVANITY_NEAREST));
+    test_refused();
+    memory_left = true;
+}
+
+int main(void) {
+    test_entries();
+    test_sizes();
+    test_doubles();
+    test_lines();
+    test_accepted();
+    test_refused();
+    test_memory();
+    return missed != 0;
+}
