@@ -1,4 +1,4 @@
-"""How far the work is, said on standard error from its second second on."""
+"""What is said on standard error: messages, and from its second second on how far the work is."""
 import sys
 import time
 
@@ -7,13 +7,17 @@ started = time.monotonic()
 due = started + 1
 
 
+def say(line):
+    print(f"ravenvanity: {line}", file=sys.stderr, flush=True)
+
+
 def tick(what, done, total):
     """So much is done of the whole."""
     global due
     now = time.monotonic()
     if shown and now >= due:
         due = now + 1
-        print(f"ravenvanity: {what}, {100 * done // max(total, 1)} %, {now - started:.0f} s", file=sys.stderr, flush=True)
+        say(f"{what}, {100 * done // max(total, 1)} %, {now - started:.0f} s")
 
 
 def track(steps, total, what):
