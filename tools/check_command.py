@@ -271,6 +271,9 @@ def ends(folder):
     for words in ("refusal", "show long.str", "sheet long.cell --hex"):
         done = subprocess.run(["bash", "-c", f'"{COMMAND}" {words} 2>&1 >/dev/null | cat; "{COMMAND}" {words} 2>closed | true; cat closed'], cwd=folder.path, capture_output=True)
         folder.count.hold(f"{words} into a closed pipe", done.stdout, b"")
+    for output in ("/dev/stdout", "/dev/fd/1"):
+        done = subprocess.run([COMMAND, "write", "a.cell", *CALL_1.split(" "), "-o", output], cwd=folder.path, capture_output=True)
+        folder.count.hold(f"into {output}", done.stdout.hex(), ROW)
     done = subprocess.run(["bash", "-c", f'"{COMMAND}" write a.cell {CALL_1} -o - 2>&- | od -An -v -tx1 | tr -d " \\n"'], cwd=folder.path, capture_output=True)
     folder.count.hold("standard error closed", done.stdout.decode(), ROW)
     for words in ("refusal", "--help", "show a.str"):

@@ -4,6 +4,7 @@ import errno
 import os
 import shutil
 import signal
+import stat
 import sys
 import tempfile
 
@@ -76,13 +77,27 @@ def held():
         signal.pthread_sigmask(signal.SIG_SETMASK, before)
 
 
-def mode_of(target):
-    """That of the file whose place is taken, else what a new file gets."""
+def is_output(path):
+    """Whether a name stands for standard output: `-`, the system's own, or the pipe that it is."""
+    if path in (STANDARD, "/dev/stdout", "/dev/fd/1", "/proc/self/fd/1"):
+        return True
+    if not os.path.exists(path) or sys.stdout is None:
+        return False
+    found = os.stat(path)
+    return stat.S_ISFIFO(found.st_mode) and os.path.samestat(found, os.fstat(sys.stdout.fileno()))
+
+
+def take_over(target, made):
+    """A file gets the permissions and, where that may be, the owner of the one whose place it takes, else what a new file gets."""
     if os.path.exists(target):
-        return os.stat(target).st_mode & 0o7777
-    mask = os.umask(0)
-    os.umask(mask)
-    return 0o666 & ~mask
+        found = os.stat(target)
+        with contextlib.suppress(OSError):
+            os.chown(made, found.st_uid, found.st_gid)
+        os.chmod(made, stat.S_IMODE(found.st_mode))
+    else:
+        mask = os.umask(0)
+        os.umask(mask)
+        os.chmod(made, 0o666 & ~mask)
 
 
 class Replacement:
@@ -96,13 +111,16 @@ class Replacement:
     def make(self, data):
         if os.path.exists(self.target) and not os.access(self.target, os.W_OK):
             raise OSError(errno.EACCES, os.strerror(errno.EACCES))
-        with held():
-            number, self.made = tempfile.mkstemp(prefix=BESIDE, dir=os.path.dirname(self.target))
+        try:
+            with held():
+                number, self.made = tempfile.mkstemp(prefix=BESIDE, dir=os.path.dirname(self.target))
+        except PermissionError as fault:
+            raise OSError(fault.errno, "its folder may not be written to, and a file is made beside its place") from None
         with open(number, "wb") as out:
             out.write(data)
             out.flush()
             os.fsync(out.fileno())
-        os.chmod(self.made, mode_of(self.target))
+        take_over(self.target, self.made)
 
     def keep(self):
         """What was there gets a second name, for the case that another file cannot be written."""

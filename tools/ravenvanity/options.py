@@ -129,8 +129,8 @@ def parser_of_all():
     writer(subcommands, "library", LIBRARY, proved.LIBRARY_ENTRY)
     asking(subcommands)
     looking(subcommands)
-    for own in subcommands.choices.values():
-        own.set_defaults(own=own)
+    for name, own in subcommands.choices.items():
+        own.set_defaults(own=own, writes=("o", "report") if name in ("write", "library") else ("o",))
     return parser
 
 
@@ -139,7 +139,10 @@ def parsed(words):
     given, rest = parser_of_all().parse_known_args(words)
     if rest:
         given.own.error(f"there is no `{rest[0]}`")
-    for path in (getattr(given, name, None) for name in ("input", "o", "report")):
+    for name in ("input", "o", "report"):
+        path = getattr(given, name, None)
         if path == "":
             raise Wrong("a file's name is empty")
+        if path is not None and name in given.writes and files.is_output(path):
+            setattr(given, name, files.STANDARD)
     return given
