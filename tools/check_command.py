@@ -101,6 +101,7 @@ WRONG_USES = (
     ("refusal 18 -1", "not -1"), ("refusal 18 0 1 2", "a block"), ("prepare x", "x"), ("write a.cell --policy 0 --unit 1 --unit 1 -o x", "--unit is given twice"), (f"write a.cell {CALL} -o x -o y", "-o is given twice"),
     (f"write a.cell {CALL} -o new --report ./new", "both outputs"), (f"write a.cell {CALL} -o new --report link", "both outputs"), ("sheet a.sheet --hex", "of a sheet a text is written"),
     ("sheet a.sheet --program --policy 0 --unit 1", "--program"), ("sheet a.library --policy 0 --unit 1", "the program `structure` writes cells"), (f"write a.cell {CALL} extra -o x", "`ravenvanity write --help`"),
+    ("draw a.str -o a.cell/", "a.cell/: Is a directory"), ("draw a.str -o new/", "new/: Is a directory"), ("draw a.str -o - -o x", "-o is given twice"),
     ("bounds", "LOWER, UPPER"), ("bounds 0 --unit 1 --policy 0", "UPPER"), ("bounds 0 0 0 --unit 1 --policy 0", "0"), ("bounds 0 0 --policy 0", "--unit"), ("bounds 0 0 --unit 1", "--policy"),
     ("bounds 0 0 --unit", "--unit"), ("bounds 0 0 --unit 1 --policy foo", "not foo"), ("bounds 0 0 --unit 1 --policy " + "9" * 5000, "255"), ("bounds x 0 --unit 1 --policy 0", "the lower end"),
     ("bounds 0 1e999 --unit 1 --policy 0", "beyond the doubles"), ("bounds 0 0 --unit 0x12 --policy 0", "the database unit"),
@@ -116,7 +117,7 @@ REFUSED = (
     ("write a.cell --policy 4 --unit 1 -o x", "refusal 1: "), ("write a.cell --policy 0 --unit -1 -o x", "refusal 2: "), ("measure a.cell --policy 0 --unit nan", "refusal 2: "),
     ("write grid.cell --policy strict --unit 1e-9 -o x", "refusal 18, block 3 (element 2, a node): a value is off the grid and the policy is strict\nravenvanity: looked at again, outside the proof: point 0, x, is 0.0005@1e-06, p 5e-10, p / d 0.5"),
     ("library a.library --policy strict --unit 1e-9 -o x", 'refusal 18, cell 0 ("VIA"), block 2 (element 1, a node): '), ("library a.library --policy 0 --unit 1e-300 -o x", "refusal 24, outside a cell: "),
-    ("show empty", "byte 0"), ("show a.cell", "byte 2"), ("show a.sheet", "it may be a sheet"), ("show cut.str", "cut.str, byte 80: "), ("show a.str --report cut.str", "cut.str, byte 4: report entry"), ("show a.str --report other.report", "other.report, byte 0: report entry: structure \"A\" has no element 0 that is a polygon"), ("show --report library.report", "a library's report is shown with its file"), ("draw a.sheet", "it may be a sheet"), (f"write odd.hex {CALL} -o x", "odd.hex, hex digits"), ("show --report cut.report", "33 bytes, 32 are left"),
+    ("show empty", "byte 0"), ("show a.cell", "byte 2"), ("show a.sheet", "it may be a sheet"), ("show cut.str", "cut.str, byte 80: "), ("show a.str --report cut.str", "cut.str, byte 4: report entry"), ("show a.str --report other.report", "other.report, byte 0: report entry: structure \"A\" has no element 0 that is a polygon"), ("show --report library.report", "a library's report is shown with its file"), ("draw a.sheet", "it may be a sheet"), (f"library damaged.sheet {CALL} -o x", "byte 431: element kind 77 is unknown"), ("sheet damaged.sheet", "byte 431: element kind 77 is unknown"), (f"write odd.hex {CALL} -o x", "odd.hex, hex digits"), ("show --report cut.report", "33 bytes, 32 are left"),
     ("draw empty", "byte 0"), ("draw a.gds --structure NO", "there is no structure"), ("draw none.gds", "no structure to draw"), ("sheet empty", "no `cell` line"), ("sheet cut.sheet", "cut.sheet, byte"),
     ("sheet a.library --cell", "`ravenvanity library` writes"), ("sheet a.cell --library", "which `ravenvanity write` writes"), ("sheet empty --program", "at least 9 bytes"), ("sheet turned.cell", "line 2: this array is turned by 30.0 degrees: give it the lines `sine` and `cosine`"), ("sheet one.cell", "stand together"),
     ("sheet infinite.cell --machine-sines", "not finite"), ("bounds 1 0 --unit 1 --policy 0", "refusal 32: "), ("bounds inf 0 --unit 1 --policy 0", "refusal 17, the lower end: "),
@@ -145,6 +146,7 @@ def prepared(folder):
     for words in ("sheet a.cell -o a.sheet", "sheet a.library -o library.sheet", f"library a.library {CALL} -o a.gds"):
         folder.says(words, 0)
     folder.put("cut.sheet", folder.get("a.sheet")[:-1])
+    folder.put("damaged.sheet", folder.get("library.sheet")[:431] + b"M" + folder.get("library.sheet")[432:])
     folder.put("none.library", 'library "L"\nuser_unit 1\n')
     folder.says(f"library none.library {CALL} -o none.gds", 0)
 
@@ -229,6 +231,8 @@ def shown(folder):
     records = folder.says("show a.str", 0).stdout.decode()
     folder.says("show a.str --report a.report", 0, output=records + entry)
     folder.says("show --report a.report", 0, output=entry)
+    folder.put("two.report", bytes.fromhex(ROW_ENTRY + ROW_ENTRY.replace("00000000", "00000001", 1)))
+    folder.says("show a.str --report two.report", 1, "two.report, byte 33: report entry", records)
     folder.says("show -", 0, output=records, given=ROW.encode())
     folder.says("show -", 0, output=f"accepted: 88 bytes, 1 report entry, greatest error 2.5\n{records}{entry}", given=f"ok 88 1 4004000000000000\n{ROW}\n{ROW_ENTRY}\n".encode())
     folder.says("show -", 0, output="refused: number 18, block 3 (`ravenvanity refusal 18 3` says what that means)\n", given=b"no 18 3\n")
@@ -271,7 +275,13 @@ def ends(folder):
     for words in ("refusal", "show long.str", "sheet long.cell --hex"):
         done = subprocess.run(["bash", "-c", f'"{COMMAND}" {words} 2>&1 >/dev/null | cat; "{COMMAND}" {words} 2>closed | true; cat closed'], cwd=folder.path, capture_output=True)
         folder.count.hold(f"{words} into a closed pipe", done.stdout, b"")
-    for output in ("/dev/stdout", "/dev/fd/1"):
+    for words, status in (("write missing " + CALL + " -o x", 2), ("draw a.gds -o b.svg", 0), ("foo", 2)):
+        done = subprocess.run(["bash", "-c", f'"{COMMAND}" {words} 2>/dev/full'], cwd=folder.path, capture_output=True)
+        folder.count.hold(f"{words}, and no message can be written", done.returncode, status)
+    folder.put("log", "before\n")
+    subprocess.run(["bash", "-c", f'"{COMMAND}" write a.cell {CALL_1} -q -o b.str --report /dev/stderr 2>>log'], cwd=folder.path)
+    folder.count.hold("into an open file", folder.get("log"), b"before\n" + bytes.fromhex(ROW_ENTRY))
+    for output in ("/dev/stdout", "//dev/fd/1"):
         done = subprocess.run([COMMAND, "write", "a.cell", *CALL_1.split(" "), "-o", output], cwd=folder.path, capture_output=True)
         folder.count.hold(f"into {output}", done.stdout.hex(), ROW)
     done = subprocess.run(["bash", "-c", f'"{COMMAND}" write a.cell {CALL_1} -o - 2>&- | od -An -v -tx1 | tr -d " \\n"'], cwd=folder.path, capture_output=True)

@@ -27,10 +27,11 @@ class Found(Exception):
 
 def mul_add(a, b, c):
     """a × b + c of finite doubles, rounded once."""
+    exact = Fraction(a) * Fraction(b) + Fraction(c)
     try:
-        return float(Fraction(a) * Fraction(b) + Fraction(c))
+        return float(exact)
     except OverflowError:
-        return math.inf
+        return math.inf if exact > 0 else -math.inf
 
 
 class Search:
@@ -156,16 +157,16 @@ def block_at(sheet, block):
     return form.read_element(sheet, pairs[block], block) if block else form.read_head(sheet, pairs[0])
 
 
-def in_cell(library, policy, d, sheet, number, block):
-    """What is found in a cell sheet's block, or None; an ill-formed one tells its byte."""
+def in_cell(job, sheet, number, block, start=0):
+    """What is found in a cell sheet's block, or None; an ill-formed one tells its byte, where the sheet starts at byte `start` of the file."""
     try:
         found = block_at(sheet, block)
     except form.Ill as ill:
-        return str(ill)
+        return f"byte {start + ill.at}: {ill.why}"
     if not block:
         return head_words(number, *found)
     if number in COORDINATES:
-        return coordinate_at_fault(library, policy, d, number, found)
+        return coordinate_at_fault(job.library, *job.call, number, found)
     return FACTS[number](found) if number in FACTS else None
 
 

@@ -25,9 +25,9 @@ from .inputs import Unreadable, raw
 from .show import Walk, longs, points, real8
 
 PALETTE = ("#1f77b4", "#d62728", "#2ca02c", "#9467bd", "#ff7f0e", "#17becf", "#8c564b", "#e377c2", "#bcbd22", "#393b79")
-MOST_INSTANCES, MOST_POINTS, MOST_DEEP, FARTHEST = 1024, 100000, 64, 1e100
+MOST_INSTANCES, MOST_POINTS, MOST_DEEP, NEAREST, FARTHEST = 1024, 100000, 64, 1e-100, 1e100
 SIZE, LETTER = 800, 20  # the longer side, and a letter, in pixels
-MOST_LISTED, MOST_WORDS = 40, 400  # layers beside the picture; pixels that words may widen it by
+MOST_LISTED, MOST_LETTERS = 40, 40  # layers beside the picture; letters of words in it
 CAPS = {1: "round", 2: "square"}
 LAYERED = ("polygon", "path", "text", "node")
 NO_TURN = (1.0, 0.0, 0.0, 1.0, 0.0, 0.0)
@@ -95,6 +95,8 @@ class Drawing:
         self.box = min(left, at[0] - margin), min(low, at[1] - margin), max(right, at[0] + margin), max(high, at[1] + margin)
 
     def add(self, kind, places, layer=0, margin=0.0, **others):
+        if len(readable(others.get("string", b""))) > MOST_LETTERS:
+            self.leave_out(f"words after {MOST_LETTERS} letters")
         for at in places:
             self.reach(at, margin)
         self.shapes.append((kind, places, layer, others))
@@ -182,7 +184,7 @@ class Frame:
     def __init__(self, box):
         left, low, right, high = box
         side = max(right - left, high - low)
-        margin = side / 20 or 1.0
+        margin = side / 20 if side > NEAREST else 1.0
         self.left, self.high, self.pixels = left - margin, high + margin, SIZE / (side + 2 * margin)
         self.width, self.height = ((extent + 2 * margin) * self.pixels for extent in (right - left, high - low))
 
@@ -222,11 +224,16 @@ def colour_of(layer):
     return f"#{round(255 * red):02x}{round(255 * green):02x}{round(255 * blue):02x}"
 
 
+def shortened(words):
+    return words if len(words) <= MOST_LETTERS else f"{words[:MOST_LETTERS]}\u2026"
+
+
 def words_of(kind, others):
     """(words, anchor, how far they are moved down in letters) beside a shape, if it has any."""
+    words = shortened(readable(others.get("string", b"")))
     if kind == "text":
-        return readable(others["string"]), ("start", "middle", "end", "end")[others["horizontal"]], (0.75, 0.35, 0.0, 0.0)[others["vertical"]]
-    return readable(others.get("string", b"")), "start", -0.6 if kind == "cross" else -0.3
+        return words, ("start", "middle", "end", "end")[others["horizontal"]], (0.75, 0.35, 0.0, 0.0)[others["vertical"]]
+    return words, "start", -0.6 if kind == "cross" else -0.3
 
 
 def word_lines(kind, spot, colour, others):
@@ -238,12 +245,12 @@ def word_lines(kind, spot, colour, others):
 
 def shape_lines(kind, spots, colour, others, pixels):
     joined = " ".join(map(pair, spots))
-    if kind == "polygon" and len(set(map(pair, spots))) == 1:
+    width = others.get("width", 0.0) * pixels
+    if kind in ("polygon", "path") and len(set(map(pair, spots))) == 1 and (width <= 0.5 or others["cap"] == "butt"):
         yield cross(spots[0], LETTER / 4, colour)
     elif kind == "polygon":
         yield f'<polygon points="{joined}" fill="{colour}" fill-opacity="0.35" stroke="{colour}" stroke-width="1"/>'
     elif kind == "path":
-        width = others["width"] * pixels
         how = f'stroke-opacity="0.5" stroke-width="{width:.2f}" stroke-linecap="{others["cap"]}"' if width > 0.5 else 'stroke-width="1"'
         yield f'<polyline points="{joined}" fill="none" stroke="{colour}" {how}/>'
     elif kind == "node":
@@ -267,7 +274,7 @@ def overhang(drawing, frame):
     left, right = 0.0, frame.width
     for kind, places, _, others in drawing.shapes:
         words, anchor, _ = words_of(kind, others)
-        length, x = min(MOST_WORDS, 0.6 * LETTER * len(words)), frame.spot(places[0])[0]
+        length, x = 0.6 * LETTER * len(words), frame.spot(places[0])[0]
         start = x - length * {"start": 0.0, "middle": 0.5, "end": 1.0}[anchor]
         left, right = min(left, start), max(right, start + length)
     return left, right

@@ -2,6 +2,7 @@
 import contextlib
 import errno
 import os
+import re
 import shutil
 import signal
 import stat
@@ -9,6 +10,8 @@ import sys
 import tempfile
 
 STANDARD = "-"
+STREAMS = {"stdin": 0, "stdout": 1, "stderr": 2}
+DESCRIPTOR = re.compile(r"/+(?:dev/(stdin|stdout|stderr)|(?:dev|proc/self)/fd/(\d{1,9}))", re.ASCII)
 ENDING = (signal.SIGINT, signal.SIGTERM, signal.SIGHUP)
 BESIDE = ".ravenvanity."  # how the name of a file begins that is made beside another
 
@@ -62,9 +65,15 @@ def write_output(data):
     sys.stdout.buffer.flush()
 
 
+def descriptor_of(path):
+    """The number of the open file that a name of the system's stands for, if it is such a name."""
+    found = DESCRIPTOR.fullmatch(os.path.normpath(path))
+    return None if found is None else STREAMS[found[1]] if found[1] else int(found[2])
+
+
 def is_replaced(path):
     """Whether a file is made beside this one and takes its place; what is no file, a terminal for one, is written to as it is."""
-    return os.path.isfile(path) or not os.path.exists(path)
+    return descriptor_of(path) is None and (os.path.isfile(path) or not os.path.exists(path))
 
 
 @contextlib.contextmanager
@@ -79,7 +88,7 @@ def held():
 
 def is_output(path):
     """Whether a name stands for standard output: `-`, the system's own, or the pipe that it is."""
-    if path in (STANDARD, "/dev/stdout", "/dev/fd/1", "/proc/self/fd/1"):
+    if path == STANDARD or descriptor_of(path) == STREAMS["stdout"]:
         return True
     if not os.path.exists(path) or sys.stdout is None:
         return False
@@ -164,20 +173,33 @@ def take_places(replacements):
         raise
 
 
+def opened(path):
+    """What is no file, to be written to as it is."""
+    number = descriptor_of(path)
+    return open(path, "wb") if number is None else os.fdopen(os.dup(number), "wb")
+
+
+def replacement(path):
+    """That of a file, which a name with a slash at its end is not."""
+    if path.endswith(os.sep):
+        raise OSError(errno.EISDIR, os.strerror(errno.EISDIR))
+    return Replacement(path)
+
+
 def write_all(files):
     """Writes (path, bytes) of each, none unless there is room for all; `-` is standard output. What is no file is written before any takes its place."""
     replacements = []
     try:
         for path, data in files:
             if path != STANDARD and is_replaced(path):
-                replacements.append(Replacement(path))
                 with naming(path):
+                    replacements.append(replacement(path))
                     replacements[-1].make(data)
         for path, data in files:
             if path == STANDARD:
                 write_output(data)
             elif not is_replaced(path):
-                with naming(path), open(path, "wb") as out:
+                with naming(path), opened(path) as out:
                     out.write(data)
         with held():
             take_places(replacements)

@@ -33,8 +33,9 @@ class Once(argparse.Action):
     """An option that is given twice is a mistake, whichever was meant."""
 
     def __call__(self, parser, given, value, option=None):
-        if getattr(given, self.dest) != self.default:
+        if self.dest in getattr(given, "seen", ()):
             parser.error(f"{option} is given twice")
+        given.seen = (*getattr(given, "seen", ()), self.dest)
         setattr(given, self.dest, value)
 
 

@@ -1,4 +1,5 @@
 """What is said on standard error: messages, and from its second second on how far the work is."""
+import contextlib
 import sys
 import time
 
@@ -8,7 +9,9 @@ due = started + 1
 
 
 def say(line):
-    print(f"ravenvanity: {line}", file=sys.stderr, flush=True)
+    """A message that nobody can be told does not change what is done."""
+    with contextlib.suppress(OSError):
+        print(f"ravenvanity: {line}", file=sys.stderr, flush=True)
 
 
 def tick(what, done, total):

@@ -267,14 +267,16 @@ def library_entry_words(data, at, structures):
 
 
 def entries(data, say, shown=None):
-    """Entries in words; `shown` is what `stream_lines` gave of their stream."""
+    """Entries in words, all or none; `shown` is what `stream_lines` gave of their stream."""
     library, structures = shown or (False, [None])
-    size = LIBRARY_ENTRY if library else ENTRY
+    size, lines = LIBRARY_ENTRY if library else ENTRY, []
     for at in range(0, len(data), size):
         if len(data) - at < size:
             raise Damage(f"byte {at}: a report entry has {size} bytes, {len(data) - at} are left")
         one = data[at:at + size]
-        say(library_entry_words(one, at, structures) if library else entry_words(one, at, structures[0]))
+        lines.append(library_entry_words(one, at, structures) if library else entry_words(one, at, structures[0]))
+    for line in lines:
+        say(line)
 
 
 # ---- input
@@ -300,7 +302,7 @@ def accepted(lines, say):
     for k, entry in enumerate(rest, 3):
         if len(entry) != size:
             raise Damage(f"line {k}: a report entry has {size} bytes, not {len(entry)}")
-        entries(entry, say, shown)
+    entries(b"".join(rest), say, shown)
     return shown
 
 

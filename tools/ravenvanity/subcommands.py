@@ -74,7 +74,9 @@ def outputs_apart(source, *outputs):
     """No output may take the place of the input or of another."""
     named = [path for path in outputs if path is not None]
     for path in named:
-        if is_file(path) and is_source(path, source):
+        with files.naming(path):
+            lost = is_file(path) and is_source(path, source)
+        if lost:
             raise Wrong(f"{path} is the input, and would be lost")
     if named == [files.STANDARD] * 2 or len(named) == 2 and is_file(named[0]) and same(*named):
         raise Wrong(f"{named[0]} cannot hold both outputs")

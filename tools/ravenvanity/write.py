@@ -58,7 +58,7 @@ class Cell:
     def refused(self, number, place):
         """The lines that tell a refusal."""
         block, = place
-        found = None if number in (1, 2, 3, 21, 22) else again.in_cell(self.library, *self.call, self.sheet, number, block)
+        found = None if number in (1, 2, 3, 21, 22) else again.in_cell(self, self.sheet, number, block)
         return refusal_lines(number, block_words(self.sheet, number, block), found)
 
 
@@ -72,17 +72,14 @@ class Library(Cell):
     def write(self):
         return proved.write_library
 
-    def cell_sheet(self, cell):
-        offset, length = form.read_pairs(self.sheet)[cell + 1]
-        return self.sheet[offset:offset + length]
-
     def refused(self, number, place):
         cell, block = place
         if cell == refusal.OUTSIDE:
             return refusal_lines(number, ["outside a cell"], again.in_library(self.call[1], self.sheet, number) if number in (6, 23, 24, 25) else None)
-        sheet = self.cell_sheet(cell)
+        start, length = form.read_pairs(self.sheet)[cell + 1]
+        sheet = self.sheet[start:start + length]
         where = [cell_words(sheet, cell), *block_words(sheet, number, block)]
-        return refusal_lines(number, where, again.in_cell(self.library, *self.call, sheet, number, block))
+        return refusal_lines(number, where, again.in_cell(self, sheet, number, block, start))
 
 
 def cell_words(sheet, cell):
