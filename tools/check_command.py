@@ -5,16 +5,18 @@
 
 Wrong uses and bad files get one message and their status; files are written whole or not at all, and a refusal leaves
 them as they were; cells up to the writer's limit are written; texts and sheets, the program's input, streams, reports,
-pictures, bounds and surveys go through. Of the refused cells and libraries in files of cases (tools/case_files.py has
-their form) each refusal about a coordinate must name the coordinate. The last line counts; the exit status is 0 if
-nothing was wrong.
+pictures, bounds and surveys go through. Of the cells and libraries in files of cases (tools/case_files.py has their form)
+each report entry must be shown with the magnitude and the side of its error, and each refusal about a coordinate must name the
+coordinate. The last line counts; the exit status is 0 if nothing was wrong.
 """
 import contextlib
 import errno
 import io
+import math
 import os
 import random
 import stat
+import struct
 import subprocess
 import tempfile
 import xml.etree.ElementTree
@@ -23,7 +25,7 @@ import called
 import case_files
 import conversions
 import model
-from ravenvanity import again, cell_text, files, progress, proved, write
+from ravenvanity import again, cell_text, files, progress, proved, show, write
 from ravenvanity import sheet as form
 
 ROOT = os.path.dirname(os.path.dirname(os.path.abspath(__file__)))
@@ -32,12 +34,18 @@ SAMPLES = os.path.join(ROOT, "tools", "samples")
 CALL, CALL_1 = "--policy nearest --unit 1e-9", "--policy nearest --unit 1"
 ROW = "001c050200000000000000000000000000000000000000000000000000060606410000040b000006120642000008130200040001001c100300000001000000000000002d0000000000000001000000000004110000040700"
 ROW_ENTRY = "0000000005070000000000000440454000000000000000002d4004000000000000"
+ROW_WORDS = "element 0 (reference): 4 values affected, worst column endpoint x: "
+LIBRARY_LINES = [
+    'cell 0 ("VIA"), element 1 (node): 1 value affected, worst point 0 x: p 1.0029999999999999e-07, q 100, error 2.9999999999998283e-10 below',
+    'cell 1 ("TOP"), element 3 (reference): 2 values affected, worst column endpoint x: p 2.5016e-06, q 2500, error 1.5999999999996967e-09 below',
+]
 TURNED = 'cell "A"\nreference "B" 3 1\n  at 0@1 0@1\n  column 10@1 0@1\n  degrees {}\n'
 
 
 class Count:
     def __init__(self):
         self.runs = self.refusals = self.found = self.wrong = 0
+        self.sides = {"above": 0, "below": 0}
 
     def fail(self, what):
         self.wrong += 1
@@ -226,7 +234,7 @@ def sines(folder):
 
 def shown(folder):
     """Streams and reports as text, and pictures."""
-    entry = "element 0 (reference): 4 values affected, worst column endpoint x: p 42.5, q 45, error 2.5\n"
+    entry = f"{ROW_WORDS}p 42.5, q 45, error 2.5 above\n"
     folder.put("a.report", bytes.fromhex(ROW_ENTRY))
     records = folder.says("show a.str", 0).stdout.decode()
     folder.says("show a.str --report a.report", 0, output=records + entry)
@@ -238,7 +246,7 @@ def shown(folder):
     folder.says("show -", 0, output="refused: number 18, block 3 (`ravenvanity refusal 18 3` says what that means)\n", given=b"no 18 3\n")
     folder.says(f"library a.library {CALL} -o b.gds --report b.report", 0)
     done = folder.says("show b.gds --report b.report", 0)
-    folder.count.hold("a library's entries", done.stdout.decode().splitlines()[-1][:40], 'cell 1 ("TOP"), element 3 (reference): 2')
+    folder.count.hold("a library's entries", done.stdout.decode().splitlines()[-2:], LIBRARY_LINES)
     for words in ("draw a.str", "draw a.gds", "draw a.gds --structure VIA"):
         picture = folder.says(words, 0, "outlines" if "str" in words and "structure" not in words else "").stdout
         root = xml.etree.ElementTree.fromstring(picture.decode())
@@ -246,6 +254,66 @@ def shown(folder):
     folder.says("draw a.gds -o b.svg", 0)
     folder.says("refusal 18 3", 0)
     folder.count.hold("refusals", len(folder.says("refusal", 0).stdout.splitlines()), 27)
+
+
+# p, q and error of an entry that is else ROW_ENTRY, and how its line ends
+SIDES = (
+    (42.5, 42, -0.5, "p 42.5, q 42, error 0.5 below"), (-42.5, -42, 0.5, "p -42.5, q -42, error 0.5 above"), (0.25, 0, -0.25, "p 0.25, q 0, error 0.25 below"),
+    (-5e-324, 0, 5e-324, "p -5e-324, q 0, error 5e-324 above"), (1.7e308, 2, math.inf, "p 1.7e+308, q 2, error inf above"), (-1.7e308, -2, -math.inf, "p -1.7e+308, q -2, error inf below"),
+)
+# the same of entries that the writer never gives, and what is told
+NO_SIDES = (
+    (42.5, 45, 0.0, "error 0.0 is neither above nor below 0"), (42.5, 45, -0.0, "error -0.0 is neither above nor below 0"), (42.5, 45, math.nan, "error nan is neither above nor below 0"),
+    (0.25, 0, 0.25, "error 0.25 is not q * d - p, which is -0.25 where q is 0"),
+)
+
+
+def entry_with(p, q, error):
+    return bytes.fromhex(ROW_ENTRY)[:13] + struct.pack(">did", p, q, error)
+
+
+def sides(folder):
+    """An error is shown by its magnitude and its side. What has no side is told with its place, after the records."""
+    records = folder.says("show a.str", 0).stdout.decode()
+    for p, q, error, words in SIDES:
+        entry, greatest = entry_with(p, q, error), struct.pack(">d", abs(error))
+        folder.says("show --report -", 0, output=f"{ROW_WORDS}{words}\n", given=entry)
+        folder.says("show -", 0, output=f"accepted: 88 bytes, 1 report entry, greatest error {abs(error)!r}\n{records}{ROW_WORDS}{words}\n",
+                    given=f"ok 88 1 {greatest.hex()}\n{ROW}\n{entry.hex()}\n".encode())
+    for p, q, error, words in NO_SIDES:
+        entry = entry_with(p, q, error)
+        folder.says("show a.str --report -", 1, f"standard input, byte 58: report entry: {words}", records, bytes.fromhex(ROW_ENTRY) + entry)
+        folder.says("show -", 1, f"standard input, line 4, byte 25: report entry: {words}", f"accepted: 88 bytes, 2 report entries, greatest error 2.5\n{records}",
+                    f"ok 88 2 4004000000000000\n{ROW}\n{ROW_ENTRY}\n{entry.hex()}\n".encode())
+
+
+# a node's point, and the value that stands for it under nearest: of equal magnitudes the first, else the largest
+NODES = (
+    ("2.25@1 2.75@1", "2 values affected, worst point 0 x: p 2.25, q 2, error 0.25 below"), ("2.75@1 2.25@1", "2 values affected, worst point 0 x: p 2.75, q 3, error 0.25 above"),
+    ("2.125@1 2.75@1", "2 values affected, worst point 0 y: p 2.75, q 3, error 0.25 above"), ("-2.125@1 -2.75@1", "2 values affected, worst point 0 y: p -2.75, q -3, error 0.25 below"),
+    ("0.25@1 0@1", "1 value affected, worst point 0 x: p 0.25, q 0, error 0.25 below"),
+)
+# the same where q * d is beyond the doubles
+FAR_NODES = (
+    ("1.7e308@1 -1.7e308@1", "2 values affected, worst point 0 x: p 1.7e+308, q 2, error inf above"), ("-1.7e308@1 1.7e308@1", "2 values affected, worst point 0 x: p -1.7e+308, q -2, error inf below"),
+)
+
+
+def entries_of(folder, nodes, call):
+    """What is shown of the report of a cell of nodes."""
+    folder.put("nodes.cell", 'cell "N"\n' + "".join(f"node 1 0\n  point {point}\n" for point, _ in nodes))
+    folder.says(f"write nodes.cell {call} -o nodes.str --report nodes.report -q", 0)
+    return folder.says("show --report nodes.report", 0).stdout.decode().splitlines()
+
+
+def written_sides(folder):
+    """The side of what is written: either under nearest, below under floor, above under ceiling."""
+    for nodes, d in ((NODES, "1"), (FAR_NODES, "1.1e308")):
+        wanted = [f"element {k} (node): {words}" for k, (_, words) in enumerate(nodes)]
+        folder.count.hold(f"entries under nearest, d {d}", entries_of(folder, nodes, f"--policy nearest --unit {d}"), wanted)
+    for policy, side in (("floor", "below"), ("ceiling", "above")):
+        found = entries_of(folder, NODES, f"--policy {policy} --unit 1")
+        folder.count.hold(f"sides under {policy}", [line.split(" ")[-1] for line in found], [side] * len(NODES))
 
 
 def large(folder):
@@ -362,6 +430,24 @@ def surveys(folder):
     folder.says("bounds -2.5e-6 -.5e-6 --unit 1e-6 --policy floor", 0, output="least -3, greatest -1\n")
 
 
+def sides_shown(cases, count):
+    """Each stored entry is shown with the magnitude and the side of its q * d - p."""
+    for name, _, given, lines in cases:
+        if not lines[0].startswith("ok "):
+            continue
+        d, told = model.call_of(given)[1], []
+        try:
+            show.program_lines(lines, told.append)
+        except show.Damage as damage:
+            count.fail(f"{name}: {damage}")
+            continue
+        for entry, line in zip(lines[2:], told[len(told) - len(lines) + 2:]):
+            p, q, _ = struct.unpack(">did", bytes.fromhex(entry)[-20:])
+            side = "above" if q * d - p > 0 else "below"
+            count.sides[side] += 1
+            count.hold(f"{name}: the error of an entry", line.rpartition(", error ")[2], f"{abs(q * d - p)!r} {side}")
+
+
 def coordinates_found(cases, count):
     """Of each stored refusal about a coordinate, looking again finds which, and of others it does not stumble."""
     library = proved.load()
@@ -403,12 +489,14 @@ def main(paths):
     with tempfile.TemporaryDirectory() as path:
         folder = Folder(path, count)
         prepared(folder)
-        for part in (faults, ways, there_and_back, sines, shown, large, ends, replaced, surveys):
+        for part in (faults, ways, there_and_back, sines, shown, sides, written_sides, large, ends, replaced, surveys):
             part(folder)
     progress_told(count)
+    sides_shown(cases, count)
     coordinates_found(cases, count)
     found_at(count)
-    print(f"{count.runs} runs of the command; {count.refusals} stored refusals told, {count.found} of them about a coordinate that was found; {count.wrong} wrong")
+    print(f"{count.runs} runs of the command; stored entries shown, {count.sides['above']} above and {count.sides['below']} below; "
+          f"{count.refusals} stored refusals told, {count.found} of them about a coordinate that was found; {count.wrong} wrong")
     return int(count.wrong != 0)
 
 

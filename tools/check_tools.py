@@ -5,19 +5,21 @@
 
 For each case of the files (tools/case_files.py): a sheet whose form is sound goes to text and back, and must come out as
 it went in; an expected stream and its entries are read record by record without complaint, and drawn; cut short or
-lengthened, it must be turned back with the byte; a refusal has its words; the answer must be the model's, and where the
-static library is built the proved library's, which is also asked for the bounds and surveys of tools/bounds_cases.txt and
-tools/survey_cases.txt. Then, whatever the files: faulty texts and faulty lines of cases get their message and nothing
-else; faulty calls of each tool too, and a full disk and a closed pipe end it (tools/tool_calls.py); what is stored in
-crates/test_vectors, crates/test_conversions and crates/cases is what the tools make; and refusals have the same numbers
-and words in crates/refusal, in the command and in exports/.
+lengthened, it must be turned back with the byte; an entry's error has the sign of q * d - p, worked out exactly; a refusal
+has its words; the answer must be the model's, and where the static library is built the proved library's, which is also
+asked for the bounds and surveys of tools/bounds_cases.txt and tools/survey_cases.txt. Then, whatever the files: faulty
+texts and faulty lines of cases get their message and nothing else; faulty calls of each tool too, and a full disk and a
+closed pipe end it (tools/tool_calls.py); what is stored in crates/test_vectors, crates/test_conversions and crates/cases is
+what the tools make; and refusals have the same numbers and words in crates/refusal, in the command and in exports/.
 
 The last line counts. Exit status: 0 where nothing is wrong, 1 where something is or a file cannot be read, 2 where it was
 called wrongly.
 """
 import os
 import re
+import struct
 import xml.etree.ElementTree
+from fractions import Fraction
 
 import called
 import case_files
@@ -125,6 +127,16 @@ def read_back(case, count):
         count.entries += len(case.lines) - 2
 
 
+def on_its_side(case, count):
+    """An entry's error is above 0 where the database value lies above p, below where it lies below; over exact fractions."""
+    d = Fraction(model.call_of(case.given)[1])
+    for line in case.lines[2:]:
+        p, q, error = struct.unpack(">did", bytes.fromhex(line)[-20:])
+        exact = q * d - Fraction(p)
+        if not (error < 0 if exact < 0 else error > 0 < exact):
+            count.fail(f"{case.name}: p {p!r}, q {q}, and the error is {error!r}")
+
+
 def damaged(name, what, stream, count):
     count.damaged += 1
     try:
@@ -200,6 +212,7 @@ def one_case(case, library, count):
     there_and_back(case, case.given[case_files.FRONT:], count)
     read_back(case, count)
     if case.lines[0].startswith("ok"):
+        on_its_side(case, count)
         cut_short(case.name, bytes.fromhex(case.lines[1]), count)
         drawn(case, count)
         if case.job == LIBRARY:

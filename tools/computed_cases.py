@@ -5,11 +5,12 @@
 Both are files of stored cases (tools/case_files.py): tools/stored/cells.txt.xz and tools/stored/libraries.txt.xz. It writes
 Cells.antt, Streams.antt and Libraries.antt in crates/cases/specs and Open.antt in crates/cases/proofs, all four or none.
 
-Of CELLS it takes small cells that together have every element kind, policy, record, report field and refusal number, and
-an array turned by an angle (Cells.antt). The stored cases that end in 21 and 22 are large, so cells with shorter buffers
-stand in for them, with the answer that follows from the stored one. Two cells of document 01's rows are written here by
-hand. So are the streams (Streams.antt), but for some of the stored cells; what is read from them is the answer of
-tools/reading_model.py, and what that is written to the answer of tools/model.py.
+Of CELLS it takes small cells that together have every element kind, policy, record, report field and refusal number, an
+array turned by an angle, and deviations above 0 and below under each policy as far as there are such (Cells.antt). The
+stored cases that end in 21 and 22 are large, so cells with shorter buffers stand in for them, with the answer that follows
+from the stored one. Two cells of document 01's rows are written here by hand. So are the streams (Streams.antt), but for
+some of the stored cells; what is read from them is the answer of tools/reading_model.py, and what that is written to the
+answer of tools/model.py.
 Of LIBRARIES it takes small libraries that together have every policy, with entries and without, odd and even names, no,
 one and more cells, entries of several cells and the reals 0.001 and 1e-9 in UNITS, and of every refusal the smallest, where
 those in a cell's elements count as one (Libraries.antt).
@@ -31,6 +32,7 @@ from ravenvanity import files
 ROOT = pathlib.Path(__file__).resolve().parent.parent
 OUTSIDE = model.NO_CELL            # the cell of a refusal outside a library's cells
 LARGEST, LARGEST_LIBRARY = 700, 600   # bytes of input, so that the check stays quick
+ERROR = 25                         # where in an entry the error starts, with its sign
 
 # ---- cells
 
@@ -74,7 +76,7 @@ class Vector:
         found |= {("record", c) for c in codes(bytes.fromhex(self.lines[1]))}
         for e in self.lines[2:]:
             e = bytes.fromhex(e)
-            found |= {("field", e[5]), ("axis", e[6]), ("entry", e[4])}
+            found |= {("field", e[5]), ("axis", e[6]), ("entry", e[4]), ("below", e[ERROR] >> 7, policy)}
         found.add(("entries", min(len(self.lines) - 2, 2)))
         return found
 

@@ -1,10 +1,10 @@
 #!/usr/bin/env python3
 """Known results of conversions to the database grid, of lengths within bounds and of pitch surveys, for the program `test_conversions`.
 
-A model of convert_unit, convert_physical and checked_array_endpoint of gdsr's write/conversion.rs, and of document 02's
-requests 11 and 12. Products, quotients and differences are Python's own, IEEE doubles; rounding to whole numbers is done exactly,
-over fractions, and the step between neighbours by the bit patterns. Where two bounds are few steps apart, every double
-between them is converted.
+A model of convert_unit, convert_physical and checked_array_endpoint of gdsr's write/conversion.rs, with the sign that document
+02's request 2 gives a deviation, and of its requests 11 and 12. Products, quotients and differences are Python's own, IEEE
+doubles; rounding to whole numbers is done exactly, over fractions, and the step between neighbours by the bit patterns. Where
+two bounds are few steps apart, every double between them is converted.
 
     python3 tools/conversions.py > crates/test_conversions/stdin
     python3 tools/conversions.py text       a line to read for each case
@@ -19,7 +19,7 @@ Each case is 54 bytes on standard output, numbers with the highest byte first:
    26  4  of an endpoint the count, of a survey the number of places, else 0
    30  8  two zero bytes, the refusal's number or 0, 1 if the deviation counts or 0, the database value in 32 bits or 0; of bounds the least; of a survey the clean places
    38  8  the physical value of a deviation that counts, else 0; of bounds four zeros and the greatest database value in 32 bits, or 0; of a survey the places with an entry due
-   46  8  its error, else 0; of a survey the refused places
+   46  8  the deviation, database value * database unit - physical value, with its sign, else 0; of a survey the refused places
 
 The cases of bounds_cases.txt and of survey_cases.txt, whose answers are another model's, stand after those of their kind.
 
@@ -92,10 +92,10 @@ def in_range(q):
 
 
 def deviation(d, p, q):
-    """(database value, counts, physical value, error)"""
-    error = abs(p - float(q) * d)
-    if error > 0 and not within_one_ulp(p / d, float(q)):
-        return q, 1, p, error
+    """(database value, counts, physical value, deviation with its sign)"""
+    signed = float(q) * d - p
+    if abs(signed) > 0 and not within_one_ulp(p / d, float(q)):
+        return q, 1, p, signed
     return q, 0, None, None
 
 
@@ -167,9 +167,9 @@ def survey_pitch(policy, d, pitch, n):
 
 def case(what, policy, d, operands, answer):
     try:
-        q, counts, p, error = answer()
-        known = struct.pack(">xxBBiQQ", 0, counts, q, bits(p) if counts else 0, bits(error) if counts else 0)
-        said = f"{q}" + (f" off by {error!r}" if counts else "")
+        q, counts, p, signed = answer()
+        known = struct.pack(">xxBBiQQ", 0, counts, q, bits(p) if counts else 0, bits(signed) if counts else 0)
+        said = f"{q}" + (f" off by {abs(signed)!r} {'above' if signed > 0 else 'below'}" if counts else "")
     except Refused as refused:
         known = struct.pack(">xxBBiQQ", refused.args[0], 0, 0, 0, 0)
         said = f"refused {refused.args[0]}"
@@ -280,6 +280,46 @@ def values():
         yield 1e-9, r.randrange(-(2**31), 2**31), 1e-10
 
 
+def sides():
+    """(database unit, value, unit) for every policy, for the deviation's sign."""
+    for x in (2.25, 2.75, -2.25, -2.75):
+        yield 1.0, x, 1.0
+    # database value times unit overflows: infinite, with the database value's sign
+    for x in (1.4e308, 1.7e308, -1.4e308, -1.7e308):
+        yield 1e308, x, 1.0
+    # s is -2^-1074, which becomes 0 and lies two steps below it, and 2^-1074, which lies one above
+    for x in (-2e-323, 2e-323):
+        yield 4.0, x, 1.0
+
+
+# database unit, origin, spacing, count, physical value
+ENDPOINTS = (
+    (1.0, 1, 11, 4, 42.5),  # document 01's array
+    (1.0, 1, 0, 1, 0.5),
+    (1.0, 0, 10, 3, 30.0),
+    (1.0, 2147483647, 0, 32767, 2147483647.0),
+    (1.0, 2147483647, 1, 1, 2147483648.0),
+    (1.0, -2147483648, -2147483648, 32767, -1.0),
+    (1.0, 2147483647, 2147483647, 4294967295, 0.0),
+    (1.0, 0, 10, 3, math.nan),
+    (1.0, 0, 10, 3, math.inf),
+    (1e-9, 100, 5, 7, 1.35e-7),
+    (1e-9, 100, 5, 7, 1.3500000000000003e-7),
+    (1e-9, 100, 5, 7, 1.36e-7),
+    (1e-9, -3, 3, 1, -0.0),
+    (1e-9, -3, 3, 1, 5e-324),
+    # below, and both sides of a negative one
+    (1.0, 1, 11, 4, 47.5),
+    (1.0, -1, -11, 4, -42.5),
+    (1.0, -1, -11, 4, -47.5),
+    (1.0, 0, 0, 1, -5e-324),
+    # infinite, with the database value's sign whatever the physical value's
+    (1e308, 0, 1, 2, 1.7e308),
+    (1e308, 0, -1, 2, -1.7e308),
+    (1e308, 0, -1, 2, 1.7e308),
+)
+
+
 def pairs():
     """(policies, database unit, lower, upper)"""
     every, some, most, least = range(4), (NEAREST, STRICT), sys.float_info.max, 5e-324
@@ -339,26 +379,11 @@ def rows():
 
 
 def cases():
-    for d, value, unit in values():
+    for d, value, unit in (*values(), *sides()):
         for policy in range(4):
             yield coordinate(policy, d, value, unit)
-    for d, origin, spacing, count, p in (
-        (1.0, 1, 11, 4, 42.5),  # document 01's array
-        (1.0, 1, 0, 1, 0.5),
-        (1.0, 0, 10, 3, 30.0),
-        (1.0, 2147483647, 0, 32767, 2147483647.0),
-        (1.0, 2147483647, 1, 1, 2147483648.0),
-        (1.0, -2147483648, -2147483648, 32767, -1.0),
-        (1.0, 2147483647, 2147483647, 4294967295, 0.0),
-        (1.0, 0, 10, 3, math.nan),
-        (1.0, 0, 10, 3, math.inf),
-        (1e-9, 100, 5, 7, 1.35e-7),
-        (1e-9, 100, 5, 7, 1.3500000000000003e-7),
-        (1e-9, 100, 5, 7, 1.36e-7),
-        (1e-9, -3, 3, 1, -0.0),
-        (1e-9, -3, 3, 1, 5e-324),
-    ):
-        yield endpoint(d, origin, spacing, count, p)
+    for operands in ENDPOINTS:
+        yield endpoint(*operands)
     for policies, d, lower, upper in pairs():
         for policy in policies:
             yield bounds(policy, d, lower, upper)

@@ -1,8 +1,8 @@
 #!/usr/bin/env python3
 """An independent model of the program `structure`, and of writing libraries, for stored results. A convenience, outside the proof.
 
-It follows document 01, request 1 of document 02, and gdsr's write/mod.rs, validation.rs and conversion.rs, and shares no
-code with the proved writer. Products, quotients and differences are Python's, IEEE doubles; mul_add, rounding to whole
+It follows document 01, requests 1 and 2 of document 02, and gdsr's write/mod.rs, validation.rs and conversion.rs, and shares
+no code with the proved writer. Products, quotients and differences are Python's, IEEE doubles; mul_add, rounding to whole
 numbers and eight-byte reals are worked out over exact fractions; one step is taken from bit patterns.
 
     model.py CASES      compares the answers stored in a file of cases (tools/case_files.py) with the model's, and counts
@@ -114,11 +114,11 @@ class Converter:
 
     def database(self, q, p, spot):
         need(-2**31 <= q < 2**31, 19)
-        error = abs(p - float(q) * self.d)
-        if error > 0 and not one_step(p / self.d, float(q)):
+        deviation = float(q) * self.d - p  # its sign says on which side of p the database value lies
+        if abs(deviation) > 0 and not one_step(p / self.d, float(q)):
             self.count += 1
-            if self.worst is None or error > self.worst[0]:
-                self.worst = error, p, q, spot
+            if self.worst is None or abs(deviation) > abs(self.worst[0]):
+                self.worst = deviation, p, q, spot
         return q
 
     def physical(self, c):
@@ -152,8 +152,9 @@ class Converter:
     def entry(self):
         if not self.count:
             return []
-        error, p, q, (field, axis, place) = self.worst
-        return [(error, struct.pack(">IBBBHIdid", self.index, self.kind, field, axis, place, self.count, p, q, error))]
+        deviation, p, q, (field, axis, place) = self.worst
+        entry = struct.pack(">IBBBHIdid", self.index, self.kind, field, axis, place, self.count, p, q, deviation)
+        return [(abs(deviation), entry)]
 
 
 # ---- records: write/mod.rs

@@ -436,7 +436,7 @@ def ends():
     yield "a path and a node need not close", cell(path([at(0, 0), at(9, 9)]), node([at(0, 0), at(9, 9)]))
 
 
-# ---- the report, arrays, the buffers
+# ---- the report
 
 
 def report():
@@ -454,6 +454,61 @@ def report():
     yield "s = -2^-1074 counts where its error is above 0", cell(node([at(-5e-324, 5e-324)]), policy=3)
     yield "p underflows to s = -0", cell(node([at(-5e-324, 0)]), d=1e10)
     yield "the greatest error is the second entry's", cell(node([at(0.25, 0)]), node([at(0.5, 0)]), node([at(0.125, 0)]))
+
+
+# ---- the side of the grid: an entry's error is above 0 where the database value lies above
+
+
+def sides():
+    for policy, name in enumerate(POLICIES[:3]):
+        yield f"2.25, 2.75, -2.25 and -2.75, {name}", cell(*[node([at(x, 0)]) for x in (2.25, 2.75, -2.25, -2.75)], policy=policy)
+    yield "0.25 above, then 0.25 below: the first stays", cell(node([at(2.75, 2.25)]))
+    yield "0.25 below, then 0.25 above: the first stays", cell(node([at(2.25, 2.75)]))
+    yield "0.25 below at point 1, then 0.25 above at point 2", cell(path([at(0, 0), at(0, 2.25), at(2.75, 0)]))
+    yield "0.25 above, then 0.375 below, which replaces", cell(node([at(2.75, 2.375)]))
+    yield "0.25 below, then 0.375 above, which replaces", cell(node([at(2.25, 2.625)]))
+    yield "0.375 below, then 0.25 above: the first stays", cell(node([at(2.375, 2.75)]))
+    yield "0.375 above, then 0.25 below: the first stays", cell(node([at(2.625, 2.25)]))
+    yield "0.25 above, 0.375 below, 0.5 above, 0.375 below", cell(path([at(2.75, 2.375), at(2.5, 2.375)]))
+    for name, x in (("a step less", math.nextafter(0.25, 0)), ("a step more", math.nextafter(0.25, 1))):
+        yield f"0.25 above, then {name} below", cell(node([at(0.75, x)]))
+        yield f"{name} than 0.25 below, then 0.25 above", cell(node([at(x, 0.75)]))
+    yield "a path's width below, its extensions as much above", cell(path(width=real(2.25), begin=real(2.75), end=real(2.75)))
+    yield "a path's begin is the worst, below; width and end above", cell(path(width=real(2.75), begin=real(2.375), end=real(2.75)))
+    yield "a path's end is the worst, below; width above, begin below", cell(path(width=real(2.75), begin=real(2.25), end=real(-2.625)))
+    for policy in (1, 2):
+        yield f"s = -2^-1074 in unit 4, {POLICIES[policy]}: 0 lies above", cell(node([at(-2e-323, 2e-323)]), policy=policy, d=4.0)
+
+
+def greatest_below():
+    """The greatest error is a magnitude, also where the entry that has it is below 0."""
+    low, high, less = node([at(2.375, 0)]), node([at(2.75, 0)]), node([at(2.875, 0)])
+    yield "the first entry has the greatest error, below", cell(low, high, less)
+    yield "the second entry has the greatest error, below", cell(high, low, less)
+    yield "the last entry has the greatest error, below", cell(less, high, low)
+
+
+def infinite_sides():
+    far, near = 1.7e308, 1.4e308  # of d = 1e308: to 2, whose product overflows, and to 1
+    for why, x, y in (("above, then below: the first stays", far, -far), ("below, then above: the first stays", -far, far),
+                      ("below alone: the greatest error is plus infinity", -far, 0), ("below, after a finite one below", near, -far),
+                      ("below, after a finite one above", -near, -far), ("above, after a finite one below", near, far),
+                      ("below, then a finite one above", -far, -near)):
+        yield f"infinite {why}", cell(node([at(x, y)]), d=1e308)
+
+
+def array_sides():
+    for x, name in ((10.25, "below"), (10.75, "above")):
+        yield f"the column endpoint is 1 {name}", cell(array(4, 1, column=at(x, 0.0), row=GONE))
+    for y, name in ((-10.25, "above"), (-10.75, "below")):
+        yield f"the row endpoint is 1 {name}", cell(array(1, 4, column=GONE, row=at(0.0, y)))
+    yield "column endpoint 1 above, row endpoint 1 below: the first stays", cell(array(4, 4, column=at(10.75, 0.0), row=at(0.0, 10.25)))
+    yield "column endpoint 1 below, row endpoint 1.25 above", cell(array(4, 5, column=at(10.25, 0.0), row=at(0.0, 10.75)))
+    yield "floor, and an endpoint drifts: it lies above", cell(array(3, 1, column=at(5 - 2.0**-50, 0.0), row=GONE), policy=1)
+    yield "ceiling, and an endpoint drifts: it lies below", cell(array(3, 1, column=at(1 + 2.0**-52, 0.0), row=GONE), policy=2)
+
+
+# ---- arrays, the buffers, mixed cells
 
 
 def sine_and_cosine(angle, places=256):
@@ -721,6 +776,14 @@ def library_reports():
         polygon([at(0.5, 0)] + SQUARE[1:3] + [at(0.5, 0)]), path(width=real(2.5)), text(origin=at(0, 0.25)), OFF_GRID, array(column=at(0.5, 0)))])
 
 
+def library_sides():
+    for policy, name in enumerate(POLICIES[:3]):
+        yield f"2.25 and 2.75 in a cell, -2.25 and -2.75 in the next, {name}", library(off(2.25, 2.75), off(-2.25, -2.75), policy=policy)
+    yield "the greatest error in the first cell, below", library(off(2.375, 2.75), off(2.75), off(2.875))
+    yield "the greatest error in the middle cell, below", library(off(2.75), off(2.875, 2.375, 2.75), off(2.75))
+    yield "the greatest error in the last cell, below", library(off(2.75), sheet(), off(2.875, 2.375))
+
+
 def library_calls():
     yield "two cells of one name", library(sheet(node()), sheet(polygon()))
     yield "three of one name, all alike", library(sheet(), sheet(), sheet())
@@ -745,11 +808,11 @@ def library_mixed():
 
 
 GROUPS = (caller, pairs, lengths, codes, coordinates, stamps, names, counts, layers, strings, grids, transforms, turns, units, finite,
-          rounding, competing, ends, report, arrays, buffers, mixed)
+          rounding, competing, ends, report, sides, greatest_below, infinite_sides, array_sides, arrays, buffers, mixed)
 
 
 LIBRARY_GROUPS = (library_caller, library_pairs, library_front, library_stamps, library_units, library_names, library_faults,
-                  library_order, library_reports, library_calls, library_many, library_mixed)
+                  library_order, library_reports, library_sides, library_calls, library_many, library_mixed)
 
 
 def cases():

@@ -2,8 +2,8 @@
 """Packs stored cases into one binary file for the standard input of the program `test_vectors`. A convenience, outside the proof.
 
     pack_cases.py [-o PACK] CASES [CASES ...]     files of cases (tools/case_files.py), which follow one another
-    pack_cases.py [-o PACK] --all                 tools/stored/cells.txt.xz, tools/stored/libraries.txt.xz and the cases
-                                                  of tools/own_cases.py, as crates/test_vectors/stdin has them
+    pack_cases.py [-o PACK] --all                 cells, libraries and signs of tools/stored, in this order, and the
+                                                  cases of tools/own_cases.py, as crates/test_vectors/stdin has them
 
 PACK is where to write; missing, it is standard output. The pack, numbers with the highest byte first; for each case:
 
@@ -40,6 +40,7 @@ ALL, TO = "--all", "-o"
 JOBS = {CELL: b"\0", LIBRARY: b"\1"}
 PLACES = {CELL: ">BBI", LIBRARY: ">BBII"}
 STORED = os.path.join(os.path.dirname(os.path.abspath(__file__)), "stored")
+NAMES = ("cells", "libraries", "signs")
 
 
 def answer_bytes(case):
@@ -63,7 +64,7 @@ def pack(cases):
 
 
 def all_cases():
-    stored = [case for name in ("cells", "libraries") for case in read_cases(os.path.join(STORED, f"{name}.txt.xz"))]
+    stored = [case for name in NAMES for case in read_cases(os.path.join(STORED, f"{name}.txt.xz"))]
     return stored + [case for _, case in own_cases.cases()]
 
 

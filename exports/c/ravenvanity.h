@@ -1,6 +1,6 @@
 /* The proved GDSII writer of cells and libraries, lengths within bounds, and the pitch survey: document 01 has the cell
- * sheet, the refusals and the report entry, document 02 the library sheet, the bounds and the survey (its requests 1, 11
- * and 12). docs/FORMAT.md has both sheets, what is written and the report entries byte by byte.
+ * sheet, the refusals and the report entry, document 02 the library sheet, the sign of an entry's error, the bounds and the
+ * survey (its requests 1, 2, 11 and 12). docs/FORMAT.md has both sheets, what is written and the report entries byte by byte.
  * ravenvanity_sheet.h makes sheets, ravenvanity_write.h takes the memory for what is written, and ravenvanity_report.h reads
  * reports and tells refusals in words; none of the three is proved.
  *
@@ -16,6 +16,7 @@
  * The two for libraries return 0 or a number from 1 to 25, and have a fifth answer, the cell that is refused:
  *     accepted: *cell = 0 and *block = 0, *length and *entries of the file and the report, *greatest error (0 if none)
  *     refused:  *cell, from 0, and *block in its sheet, or RAVENVANITY_NO_CELL and 0 outside a cell; the others are 0
+ * An entry's error has a sign, the greatest error has none: it is the largest magnitude of an entry's.
  */
 #ifndef RAVENVANITY_H
 #define RAVENVANITY_H

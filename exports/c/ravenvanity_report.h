@@ -98,7 +98,7 @@ enum ravenvanity_axis {
     RAVENVANITY_AXIS_NONE = 2
 };
 
-/* What was rounded in one element: of the values that count the one with the largest error. */
+/* What was rounded in one element: of the values that count the one whose error is the largest in magnitude. */
 struct ravenvanity_entry {
     size_t cell;       /* of a library: the cell's number, from 0; of a cell's own report RAVENVANITY_NO_CELL */
     uint32_t index;    /* the element's, from 0: its block's number less 1 */
@@ -109,7 +109,7 @@ struct ravenvanity_entry {
     uint32_t affected; /* how many values of the element count */
     double physical;   /* p */
     int32_t database;  /* q */
-    double error;      /* |p - q d| */
+    double error;      /* q * d - p with its sign: above 0 where the database value lies above; never 0, may be infinite */
 };
 
 static inline const char *ravenvanity_kind_name(uint8_t kind) {
@@ -146,6 +146,11 @@ static inline const char *ravenvanity_axis_name(uint8_t axis) {
     case RAVENVANITY_AXIS_NONE: return "";
     default: return "unknown axis";
     }
+}
+
+/* On which side of the physical value the database value lies. */
+static inline const char *ravenvanity_side(const struct ravenvanity_entry *entry) {
+    return entry->error > 0 ? "above" : entry->error < 0 ? "below" : "unknown side";
 }
 
 /* ---- for the functions below alone */
@@ -236,12 +241,12 @@ static inline size_t ravenvanity_entry_words(const struct ravenvanity_entry *ent
     if (entry->field == RAVENVANITY_FIELD_POINT)
         snprintf(place, sizeof place, " %d", entry->place);
     ravenvanity_double_words(entry->physical, physical);
-    ravenvanity_double_words(entry->error, error);
+    ravenvanity_double_words(entry->error > 0 ? entry->error : 0 - entry->error, error); /* the side has a word of its own */
     return (size_t)snprintf(
-        text, size, "%selement %" PRIu32 " (%s): %" PRIu32 " %s affected, worst %s%s%s%s: p %s, q %" PRId32 ", error %s",
+        text, size, "%selement %" PRIu32 " (%s): %" PRIu32 " %s affected, worst %s%s%s%s: p %s, q %" PRId32 ", error %s %s",
         cell, entry->index, ravenvanity_kind_name(entry->kind), entry->affected, entry->affected == 1 ? "value" : "values",
         ravenvanity_field_name(entry->field), place, entry->axis == RAVENVANITY_AXIS_NONE ? "" : " ",
-        ravenvanity_axis_name(entry->axis), physical, entry->database, error);
+        ravenvanity_axis_name(entry->axis), physical, entry->database, error, ravenvanity_side(entry));
 }
 
 #endif

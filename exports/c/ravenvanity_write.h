@@ -26,7 +26,7 @@ struct ravenvanity_written {
     size_t length;
     uint8_t *report; /* in the same allocation, behind the bytes */
     size_t report_length, entries;
-    double greatest; /* error, 0 if none */
+    double greatest; /* error, without a sign; 0 if none */
 };
 
 /* ---- for the functions below alone */

@@ -46,16 +46,40 @@ static const struct ravenvanity_entry ENTRY = {
     .cell = RAVENVANITY_NO_CELL, .kind = RAVENVANITY_KIND_REFERENCE, .field = RAVENVANITY_FIELD_COLUMN_ENDPOINT,
     .affected = 4, .physical = 42.5, .database = 45, .error = 2.5,
 };
-static const char ENTRY_WORDS[] = "element 0 (reference): 4 values affected, worst column endpoint x: p 42.5, q 45, error 2.5";
+static const char ENTRY_WORDS[] = "element 0 (reference): 4 values affected, worst column endpoint x: p 42.5, q 45, error 2.5 above";
 
 static void test_entries(void) {
     test_entry(ENTRY_WORDS, ENTRY);
-    test_entry("cell 7, element 4294967295 (polygon): 1 value affected, worst point 65535 y: p -1.5, q -2147483648, error 0.5",
-               (struct ravenvanity_entry){7, UINT32_MAX, 1, 0, 1, 65535, 1, -1.5, INT32_MIN, 0.5});
-    test_entry("cell 0, element 2 (path): 0 values affected, worst begin extension: p nan, q 0, error inf",
+    test_entry("cell 7, element 4294967295 (polygon): 1 value affected, worst point 65535 y: p -1.5, q -2147483648, error 0.5 below",
+               (struct ravenvanity_entry){7, UINT32_MAX, 1, 0, 1, 65535, 1, -1.5, INT32_MIN, -0.5});
+    test_entry("cell 0, element 2 (path): 0 values affected, worst begin extension: p nan, q 0, error inf above",
                (struct ravenvanity_entry){0, 2, 2, 2, 2, 0, 0, NAN, 0, INFINITY});
-    test_entry("element 0 (unknown kind): 0 values affected, worst unknown field unknown axis: p -0, q 0, error -inf",
+    test_entry("element 0 (unknown kind): 0 values affected, worst unknown field unknown axis: p -0, q 0, error inf below",
                (struct ravenvanity_entry){RAVENVANITY_NO_CELL, 0, 0, 9, 3, 1, 0, -0.0, 0, -INFINITY});
+}
+
+static void test_side(const char *wanted, double error) {
+    struct ravenvanity_entry entry = ENTRY;
+    entry.error = error;
+    hold_text(wanted, strlen(ravenvanity_side(&entry)), ravenvanity_side(&entry));
+    char line[RAVENVANITY_WORDS_ROOM], size[RAVENVANITY_DOUBLE_ROOM];
+    ravenvanity_double_words(fabs(error), size);
+    snprintf(line, sizeof line, "element 0 (reference): 4 values affected, worst column endpoint x: p 42.5, q 45, error %s %s",
+             size, wanted);
+    test_entry(line, entry);
+}
+
+// The magnitude has no sign. An error of 0 or NaN, which the proved writer never gives, is on no side.
+static void test_sides(void) {
+    test_side("above", 2.5);
+    test_side("below", -2.5);
+    test_side("above", 4.9406564584124654e-324);
+    test_side("below", -4.9406564584124654e-324);
+    test_side("above", INFINITY);
+    test_side("below", -INFINITY);
+    test_side("unknown side", 0.0);
+    test_side("unknown side", -0.0);
+    test_side("unknown side", NAN);
 }
 
 // Into rooms up to that of the whole: what is behind them stays.
@@ -186,7 +210,7 @@ static void test_accepted(void) {
     struct ravenvanity_entry entry;
     size_t at = 0;
     hold("an entry", ravenvanity_next_library_entry(to.report, to.report_length, &at, &entry));
-    test_entry("cell 1, element 0 (node): 1 value affected, worst point 0 x: p 1.5, q 1, error 0.5", entry);
+    test_entry("cell 1, element 0 (node): 1 value affected, worst point 0 x: p 1.5, q 1, error 0.5 below", entry);
     hold("no more entries", !ravenvanity_next_library_entry(to.report, to.report_length, &at, &entry));
     ravenvanity_free_written(&to);
 }
@@ -217,6 +241,7 @@ static void test_memory(void) {
 
 int main(void) {
     test_entries();
+    test_sides();
     test_sizes();
     test_doubles();
     test_lines();

@@ -1,6 +1,6 @@
 //! The proved GDSII writer of cells and libraries, lengths within bounds and the pitch survey, for Rust. Document 01 has the
-//! cell sheet, the refusals and the report entry, document 02 the library sheet, the bounds and the survey (its requests 1, 11
-//! and 12). docs/FORMAT.md has both sheets, what is written and the report entries byte by byte.
+//! cell sheet, the refusals and the report entry, document 02 the library sheet, the sign of an entry's error, the bounds and the
+//! survey (its requests 1, 2, 11 and 12). docs/FORMAT.md has both sheets, what is written and the report entries byte by byte.
 //! `ravenvanity_sheet.rs` makes sheets, and `ravenvanity_report.rs` reads reports and tells refusals in words; neither is proved.
 //! The borrow checker sees to what the C interface asks: no null pointer and no overlap.
 #![allow(dead_code)] // a program uses what it needs of this
@@ -98,7 +98,7 @@ pub struct Accepted {
     pub length: usize,
     /// Entries of the report, `ENTRY_LENGTH` or `LIBRARY_ENTRY_LENGTH` bytes each.
     pub entries: usize,
-    /// The greatest error, 0 if none.
+    /// The greatest error, without a sign; 0 if none.
     pub greatest: f64,
 }
 

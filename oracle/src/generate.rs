@@ -19,9 +19,19 @@ struct Maker<'a> {
     near: bool,
     /// Arrays with sines and cosines of no angle.
     any_pair: bool,
+    /// The last coordinate that was made anew.
+    last: Option<Coordinate>,
 }
 
 const TINY: f64 = f64::from_bits(1);
+
+/// As far from zero on the other side: nearest deviates as far there, with the other sign.
+fn mirrored(coordinate: Coordinate) -> Coordinate {
+    match coordinate {
+        Coordinate::Integer { value, unit } => Coordinate::Integer { value: value.wrapping_neg(), unit },
+        Coordinate::Double { value, unit } => Coordinate::Double { value: -value, unit },
+    }
+}
 
 impl Maker<'_> {
     fn is_wild(&mut self) -> bool {
@@ -136,6 +146,29 @@ impl Maker<'_> {
         Coordinate::Double { value: stepped(value, self.random.pick(&[0, 0, 0, 1, -1])), unit }
     }
 
+    /// Whether there are q whose q × d is beyond the doubles.
+    fn is_huge(&self) -> bool {
+        self.d > f64::MAX / 2_147_483_648.0
+    }
+
+    /// About the last places of a huge grid, on either side: the next place may be beyond the doubles.
+    fn far_double(&mut self) -> Coordinate {
+        let (last, any) = (stepped(f64::MAX, -(self.random.below(3) as i64)), f64::MAX * self.random.unit());
+        let value = self.random.pick(&[last, 1.7e308, any, any]);
+        Coordinate::Double { value: if self.random.often(500) { -value } else { value }, unit: 1.0 }
+    }
+
+    /// On a huge grid other coordinates are mostly refused.
+    fn huge_coordinate(&mut self) -> Coordinate {
+        match self.random.below(40) {
+            0 => self.double(),
+            1..=4 => self.tiny_double(),
+            5..=9 => Coordinate::Integer { value: self.random.next() as i32, unit: self.d },
+            _ if self.on_grid => Coordinate::Double { value: self.random.pick(&[0.0, self.d, -self.d]), unit: 1.0 },
+            _ => self.far_double(),
+        }
+    }
+
     fn coordinate(&mut self) -> Coordinate {
         if self.is_wild() {
             return match self.random.below(3) {
@@ -144,14 +177,20 @@ impl Maker<'_> {
                 _ => Coordinate::Integer { value: self.random.next() as i32, unit: self.bad_unit() },
             };
         }
-        if self.near {
-            return self.near_coordinate();
+        if let Some(last) = self.last
+            && self.random.often(80)
+        {
+            return mirrored(last);
         }
-        match self.random.below(20) {
+        let made = match self.random.below(20) {
+            _ if self.near => self.near_coordinate(),
+            _ if self.is_huge() => self.huge_coordinate(),
             0 if !self.on_grid => self.tiny_double(),
             1..=7 => self.integer(),
             _ => self.double(),
-        }
+        };
+        self.last = Some(made);
+        made
     }
 
     fn place(&mut self) -> Place {
@@ -382,6 +421,14 @@ impl Maker<'_> {
         [axis(), axis()]
     }
 
+    /// One that is needed is absent only to be refused.
+    fn spacings(&mut self, counts: [u32; 2]) -> [Option<Place>; 2] {
+        counts.map(|count| {
+            let absent = if count > 1 { self.is_wild() } else { self.random.often(500) };
+            if absent { None } else { Some(self.spacing(count)) }
+        })
+    }
+
     /// A near origin, so that endpoints mostly stay within 32 bits.
     fn array_origin(&mut self) -> Place {
         if self.random.often(200) { self.place() } else { self.spacing(100_000) }
@@ -430,6 +477,19 @@ impl Maker<'_> {
         (origin, spacings)
     }
 
+    /// An origin and spacings on a huge grid whose endpoints are doubles. Where the grid has the endpoints, q × d may be beyond
+    /// the doubles, or only its distance from p.
+    fn far_array(&mut self, counts: [u32; 2]) -> (Place, [Option<Place>; 2]) {
+        let metres = |value| Coordinate::Double { value, unit: 1.0 };
+        let mut far = || [f64::MAX * self.random.unit(), f64::MAX * self.random.unit()];
+        let origin = far();
+        let spacings = counts.map(|count| {
+            let (count, end) = (f64::from(count.max(1)), far());
+            Some([0, 1].map(|axis| metres(end[axis] / count - origin[axis] / count)))
+        });
+        (origin.map(metres), spacings)
+    }
+
     /// An array whose first product lies exactly between two doubles, so that the least second product decides the rounding.
     fn between_doubles(&mut self) -> Body {
         let metres = |value| Coordinate::Double { value, unit: 1.0 };
@@ -456,19 +516,23 @@ impl Maker<'_> {
             return self.between_doubles();
         }
         let single = self.random.often(300);
-        let counts = if single { [1, 1] } else { [self.count(), self.count()] };
+        let mut counts = if single { [1, 1] } else { [self.count(), self.count()] };
         let (turn, angle) = self.turn();
         let (sine, cosine) = angle.sin_cos();
         let pair = self.pair([sine, cosine]);
-        if !single && self.random.often(250) {
-            let (origin, spacings) = self.cancelling(counts, pair);
-            return Body::Reference { name: self.name(), counts, turn, pair, origin, spacings };
-        }
-        let spacings = counts.map(|count| {
-            let absent = if count > 1 { self.is_wild() } else { self.random.often(500) };
-            if absent { None } else { Some(self.spacing(count)) }
-        });
-        let origin = if single { self.place() } else { self.array_origin() };
+        let special = self.random.often(if self.is_huge() { 800 } else { 250 });
+        let (origin, spacings) = match (single, special) {
+            (true, _) => (self.place(), self.spacings(counts)),
+            (_, true) if self.is_huge() => self.far_array(counts),
+            (_, true) => self.cancelling(counts, pair),
+            _ if self.random.often(150) => {
+                // the two spacings, and maybe the two endpoints, deviate as far to either side
+                counts[1] = counts[0];
+                let spacing = self.spacing(counts[0]);
+                (self.array_origin(), [Some(spacing), Some(spacing.map(mirrored))])
+            }
+            _ => (self.array_origin(), self.spacings(counts)),
+        };
         Body::Reference { name: self.name(), counts, turn, pair, origin, spacings }
     }
 
@@ -655,7 +719,10 @@ fn database_unit(random: &mut Random) -> f64 {
         6 => 1e-6,
         7 => random.pick(&[2f64.powi(-30), 1e-3, 0.1, 3.0, 1e-10]),
         8 => random.pick(&[TINY, TINY * 3.0, f64::MIN_POSITIVE, f64::MIN_POSITIVE / 2.0, stepped(f64::MIN_POSITIVE, 1)]),
-        9 => random.pick(&[1e300, f64::MAX, f64::MAX / 2.0, 1e250, 1e308]),
+        9 => {
+            let any = f64::MAX * random.unit().abs();
+            random.pick(&[1e300, f64::MAX, f64::MAX / 1.5, f64::MAX / 2.0, 2f64.powi(1023), 1e250, 1e308, 1e308, any])
+        }
         10 => f64::from_bits(random.next() >> 1).abs().clamp(TINY, f64::MAX),
         _ => random.unit().abs().max(1e-12),
     }
@@ -684,7 +751,7 @@ fn maker(random: &mut Random, policy: u8, d: f64, any_pair: bool) -> Maker<'_> {
     let wild = random.pick(&[0, 0, 0, 0, 0, 12, 12, 40, 250]);
     let on_grid = random.often(if policy == 3 { 850 } else { 150 });
     let d = if d.is_finite() && d > 0.0 { d } else { 1.0 };
-    Maker { random, d, wild, on_grid, near: false, any_pair }
+    Maker { random, d, wild, on_grid, near: false, any_pair, last: None }
 }
 
 pub fn input(random: &mut Random, any_pair: bool) -> Input {

@@ -15,6 +15,8 @@ mod ravenvanity;
 #[allow(dead_code)]
 mod sheet;
 #[allow(dead_code)]
+mod side;
+#[allow(dead_code)]
 mod timing;
 
 use answer::{GdsrCell, GdsrLibrary};
@@ -79,11 +81,13 @@ mod proved {
     pub struct Room {
         pub out: Vec<u8>,
         pub report: Vec<u8>,
+        pub greatest: f64,
     }
 
     pub fn room(given: &Given) -> Room {
         let accepted = ravenvanity::measure_library(0, D, &given.sheet).expect("accepted");
-        Room { out: vec![0; accepted.length], report: vec![0; accepted.entries * ravenvanity::LIBRARY_ENTRY_LENGTH] }
+        let report = vec![0; accepted.entries * ravenvanity::LIBRARY_ENTRY_LENGTH];
+        Room { out: vec![0; accepted.length], report, greatest: 0.0 }
     }
 
     /// As a user does: measures, takes the memory, and writes.
@@ -92,19 +96,21 @@ mod proved {
     }
 
     pub fn write(given: &Given, room: &mut Room) {
-        black_box(ravenvanity::write_library(0, D, black_box(&given.sheet), &mut room.out, &mut room.report)).expect("accepted");
+        let answer = ravenvanity::write_library(0, D, black_box(&given.sheet), &mut room.out, &mut room.report);
+        room.greatest = black_box(answer).expect("accepted").greatest;
     }
 
     pub fn measure(given: &Given) {
         black_box(ravenvanity::measure_library(0, D, black_box(&given.sheet))).expect("accepted");
     }
 
-    /// The two write the same.
+    /// The two write the same, gdsr's errors with their signs.
     pub fn check(given: &Given, room: &Room) {
-        let Ok(answer::Answer::Accepted { bytes, entries, .. }) = given.library.answer(D, 0) else {
+        let Ok(answer::Answer::Accepted { bytes, entries, greatest }) = given.library.answer(D, 0) else {
             panic!("gdsr refuses a library of the benchmark");
         };
-        assert!(bytes == room.out && entries == room.report, "the two writers differ");
+        let same = bytes == room.out && entries == room.report && greatest == room.greatest.to_bits();
+        assert!(same, "the two writers differ");
     }
 }
 

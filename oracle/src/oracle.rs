@@ -18,6 +18,8 @@ mod random;
 mod ravenvanity;
 #[cfg_attr(not(proved), allow(dead_code))]
 mod sheet;
+#[cfg_attr(not(proved), allow(dead_code))]
+mod side;
 mod stored;
 
 #[cfg(proved)]

@@ -4,6 +4,7 @@ A structure is read by the grammar of document 01 ("What a structure draws"); a 
 UNITS, structures, ENDLIB. Each record gets a line: the byte where it starts, its name, and what it holds. Eight-byte
 reals are written as exact decimals, long ones of UNITS as the shortest decimal of the double. Zero bytes after ENDLIB are
 no damage: a line says how many. The lines that the program `structure` prints, and a stored library's, are read too.
+Of an entry's error the magnitude is told, and on which side of the physical value the database value lies: above or below.
 """
 import re
 import struct
@@ -245,18 +246,34 @@ class Walk:
 # ---- report entries
 
 
+def impossible(kind, field, axis, p, q, error):
+    """(byte of an entry, what this writer never has there), or None. Where q is 0, the error q * d - p needs no d."""
+    if kind not in KINDS:
+        return 4, f"element kind {kind} is unknown"
+    if field >= len(FIELDS):
+        return 5, f"field {field} is unknown"
+    if axis >= len(AXES):
+        return 6, f"axis {axis} is unknown"
+    if not (error > 0 or error < 0):
+        return 25, f"error {error!r} is neither above nor below 0"
+    if q == 0 and error != -p:
+        return 25, f"error {error!r} is not q * d - p, which is {-p!r} where q is 0"
+    return None
+
+
 def entry_words(data, at, structure):
     """A cell's entry in words; it must be of an element that the structure has, where that is known."""
     index, kind, field, axis, place, count, p, q, error = struct.unpack(">IBBBHIdid", data)
-    if kind not in KINDS or field >= len(FIELDS) or axis >= len(AXES):
-        where, what, value = ((4, "element kind", kind) if kind not in KINDS else
-                              (5, "field", field) if field >= len(FIELDS) else (6, "axis", axis))
-        hint = "" if structure else "; a library's report is shown with its file"
-        raise Damage(f"byte {at + where}: report entry: {what} {value} is unknown{hint}")
+    fault = impossible(kind, field, axis, p, q, error)
+    if fault:
+        # in an entry of a library an index starts where a cell's has its kind
+        hint = "; a library's report is shown with its file" if kind not in KINDS and not structure else ""
+        raise Damage(f"byte {at + fault[0]}: report entry: {fault[1]}{hint}")
     if structure and (index >= len(structure[1]) or KIND_OF[structure[1][index][0]] != kind):
         raise Damage(f"byte {at}: report entry: structure {quoted(structure[0])} has no element {index} that is a {KINDS[kind]}, so this is another's report")
     spot = f"point {place} {AXES[axis]}" if field == 0 else f"{FIELDS[field]} {AXES[axis]}".rstrip()
-    return f"element {index} ({KINDS[kind]}): {many(count, 'value')} affected, worst {spot}: p {p!r}, q {q}, error {error!r}"
+    side = "above" if error > 0 else "below"
+    return f"element {index} ({KINDS[kind]}): {many(count, 'value')} affected, worst {spot}: p {p!r}, q {q}, error {abs(error)!r} {side}"
 
 
 def library_entry_words(data, at, structures):
@@ -266,15 +283,19 @@ def library_entry_words(data, at, structures):
     return f"cell {cell} ({quoted(structures[cell][0])}), {entry_words(data[4:], at + 4, structures[cell])}"
 
 
+def any_entry_words(data, at, shown):
+    library, structures = shown
+    return library_entry_words(data, at, structures) if library else entry_words(data, at, structures[0])
+
+
 def entries(data, say, shown=None):
     """Entries in words, all or none; `shown` is what `stream_lines` gave of their stream."""
-    library, structures = shown or (False, [None])
-    size, lines = LIBRARY_ENTRY if library else ENTRY, []
+    shown = shown or (False, [None])
+    size, lines = LIBRARY_ENTRY if shown[0] else ENTRY, []
     for at in range(0, len(data), size):
         if len(data) - at < size:
             raise Damage(f"byte {at}: a report entry has {size} bytes, {len(data) - at} are left")
-        one = data[at:at + size]
-        lines.append(library_entry_words(one, at, structures) if library else entry_words(one, at, structures[0]))
+        lines.append(any_entry_words(data[at:at + size], at, shown))
     for line in lines:
         say(line)
 
@@ -289,6 +310,17 @@ def stream_lines(stream, say):
     return is_library(stream), walk.structures
 
 
+def line_entry_words(line, data, shown):
+    """An entry in words that has a line of its own, which a fault names."""
+    size = LIBRARY_ENTRY if shown[0] else ENTRY
+    if len(data) != size:
+        raise Damage(f"line {line}: a report entry has {size} bytes, not {len(data)}")
+    try:
+        return any_entry_words(data, 0, shown)
+    except Damage as damage:
+        raise Damage(f"line {line}, {damage}") from None
+
+
 def accepted(lines, say):
     _, length, count, error = lines[0].split(" ")
     stream = unhexed(lines[1], "line 2")
@@ -298,11 +330,8 @@ def accepted(lines, say):
     greatest = struct.unpack(">d", unhexed(error, "line 1"))[0]
     say(f"accepted: {many(len(stream), 'byte')}, {many(len(rest), 'report entry').replace('entrys', 'entries')}, greatest error {greatest!r}")
     shown = stream_lines(stream, say)
-    size = LIBRARY_ENTRY if shown[0] else ENTRY
-    for k, entry in enumerate(rest, 3):
-        if len(entry) != size:
-            raise Damage(f"line {k}: a report entry has {size} bytes, not {len(entry)}")
-    entries(b"".join(rest), say, shown)
+    for words in [line_entry_words(k, entry, shown) for k, entry in enumerate(rest, 3)]:
+        say(words)
     return shown
 
 

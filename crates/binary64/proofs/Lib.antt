@@ -1,4 +1,4 @@
--- Examples at single doubles; whole numbers and tests; the value of a double, its parts and its pattern; rounding; steps; `mul_add`; order; doubles that are whole numbers; a whole number times a double, and back.
+-- Examples at single doubles; whole numbers and tests; the value of a double, its parts, its pattern and its size; rounding; steps; `mul_add`; order; doubles that are whole numbers; a whole number times a double, and back.
 pub mod Examples
 pub mod Tests
 pub mod Powers
@@ -6,6 +6,7 @@ pub mod WholeLaws
 pub mod ValueLaws
 pub mod PartsLaws
 pub mod Bits
+pub mod AbsLaws
 pub mod Finite
 pub mod Sign
 pub mod Signed
@@ -20,4 +21,6 @@ pub mod Snapping
 pub mod Compare
 pub mod Same
 pub mod Exact
+pub mod Beside
 pub mod TimesBack
+pub mod Side

@@ -129,11 +129,11 @@ under-finite f s a c h =
 -- ---- the quotient
 
 -- the fractions of two doubles, by their sizes
-cross : (x y : Float) → T (fits binary64 x) → T (fits binary64 y) → sizeOf x ≤ sizeOf y → num x * den y ≤ num y * den x
+pub cross : (x y : Float) → T (fits binary64 x) → T (fits binary64 y) → sizeOf x ≤ sizeOf y → num x * den y ≤ num y * den x
 cross x y X Y h = transfer (num x) (num y) (den x) (den y) (sizeOf x) (sizeOf y) unit unit (pow-pos 1074) (pow-pos 1074) (sym (exact x X)) (sym (exact y Y)) (mul-le-mul-right unit h)
 
-none : (x : Float) → T (fits binary64 x) → sizeOf x ≤ 0 → num x ≤ 0
-none x X h = le-of-mul-le-mul-right (le-trans (le-of-eq (sym (exact x X))) (le-trans (mul-le-mul-right (den x) h) (le-of-eq (zero-mul (den x) ∙ sym (zero-mul unit))))) (pow-pos 1074)
+pub no-size : (x : Float) → T (fits binary64 x) → sizeOf x ≤ 0 → num x ≤ 0
+no-size x X h = le-of-mul-le-mul-right (le-trans (le-of-eq (sym (exact x X))) (le-trans (mul-le-mul-right (den x) h) (le-of-eq (zero-mul (den x) ∙ sym (zero-mul unit))))) (pow-pos 1074)
 
 -- m / i ≤ n / j, both multiplied by l / k
 times : (m n i j k l : ℕ) → m * j ≤ n * i → m * l * (k * j) ≤ n * l * (k * i)
@@ -170,7 +170,7 @@ module _ (d : Float) (D : T (fits binary64 d)) (b : T (positive d)) where
 
   size-none : (p : Float) → T (fits binary64 p) → T (finite p) → T (finite (div binary64 p d)) → sizeOf p ≤ 0 → sizeOf (div binary64 p d) ≤ 0
   unfolding size
-  size-none p P f s h = size-most p 0 1 P f s (lit< tt) (lit< tt) (no-times (num p) (den d) (num d * den p) (none p P h))
+  size-none p P f s h = size-most p 0 1 P f s (lit< tt) (lit< tt) (no-times (num p) (den d) (num d * den p) (no-size p P h))
     where
       no-times : (n l m : ℕ) → n ≤ 0 → n * l * 1 ≤ 0 * m
       no-times zero l m h = omega arith

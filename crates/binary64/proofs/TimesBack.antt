@@ -10,13 +10,12 @@ use borrow.Author.Tests.{leb-false, le-leb, lt-leb, ne-eqb}
 use lib.Dec.{T, leb, eqb, le→leb, lit<, lit≤}
 use lib.IntN.{pos}
 use lib.Signed.{_≤ℤ_}
-use lib.Pow.{pow-pos, shl-lt, pow-mono}
+use lib.Pow.{pow-pos}
 use lib.Ieee.{Float, nan, inf, fin, binary64, up, down, unlike, round, odd, mul, div, ofInt, fits, ofFields, ofBits, toBits}
 use lib.Ieee.Fits.{ofInt-fits, round-fits, down-pos}
 use lib.Ieee.Back.{round-whole}
 use lib.Ieee.Bits.{ofBits-fits, toBits-ofBits}
-use lib.Ieee.Exact.{HasValue, odd-sign, round-exact}
-use lib.Ieee.Order.{round-mono}
+use lib.Ieee.Exact.{HasValue, odd-sign}
 use lib.Ieee.Positive.{num, den, positive, den-pos, first-pos}
 use lib.Ieee.Scale.{grid, finite, round-same}
 use Rattle.binary64.specs.Value.{unit, sizeOf, halfUp, negative, signed, scaled, roundAway}
@@ -24,50 +23,12 @@ use Rattle.binary64.specs.Step.{orderedBits, ordered, oneStep, nearestDo
 use Rattle.binary64.proofs.ValueLaws.{size-of-value, sign-of-value, exact}
 use Rattle.binary64.proofs.PartsLaws.{finite-no-nan, parts-suc, power-under}
 use Rattle.binary64.proofs.StepLaws.{sizeFrom, gap, gap-le, size-gaps, fieldOf, digitsOf, no-size, by-field, size-bits, field-lt, sign-bits, next-bits, near-step}
-use Rattle.binary64.proofs.Half.{Near, near-eq, near-cancel, round-under, round-val, rounding}
+use Rattle.binary64.proofs.Half.{Near, near-eq, near-cancel, round-val, rounding}
 use Rattle.binary64.proofs.Quotient.{num-pos, div-is}
-use Rattle.binary64.proofs.Order.{has-finite, grid-order, under-of-le, under-finite}
-use Rattle.binary64.proofs.Snapping.{by-parts, scaled→ordered, div-rest}
+use Rattle.binary64.proofs.Order.{has-finite}
+use Rattle.binary64.proofs.Beside.{finite-below, size-below, size-above}
+use Rattle.binary64.proofs.Snapping.{scaled→ordered, div-rest}
 use Rattle.binary64.proofs.Exact.{widen}
-
--- ---- a fraction a / c rounded, beside a double y
-
-module _ (y : Float) (Y : T (fits binary64 y)) (f : T (finite y)) where
-  -- y is a fraction that is not rounded
-  own : HasValue (round binary64 false (sizeOf y) unit) false (sizeOf y) unit
-  own = by-parts y Y f (λ s m j p. round-exact binary64 false (sizeOf y) unit m j (pow-pos 1074) (p .digits) (fine m j (p .digits) (p .power)) (ap (λ (z : ℕ). z * unit) (p .size)))
-    where
-      fine : (m j : ℕ) → m < 2 ^ 53 → j < 2046 → m * 2 ^ j < 2 ^ 2098
-      fine m j h k = lt-of-lt-of-le (shl-lt 53 j h) (pow-mono (within j k))
-        where
-          within : (j : ℕ) → j < 2046 → 53 + j ≤ 2098
-          within j k = omega arith
-
-  own-finite : T (finite (round binary64 false (sizeOf y) unit))
-  own-finite = has-finite (round binary64 false (sizeOf y) unit) false (sizeOf y) unit own
-
-  own-grid : grid binary64 (sizeOf y) unit ≡ sizeOf y
-  own-grid =
-      sym (size-of-value (round binary64 false (sizeOf y) unit) false (grid binary64 (sizeOf y) unit) (round-val binary64 false (sizeOf y) unit own-finite))
-      ∙ size-of-value (round binary64 false (sizeOf y) unit) false (sizeOf y) own
-
-  module _ (a c : ℕ) (C : 0 < c) where
-    finite-below : a * unit ≤ sizeOf y * c → T (finite (round binary64 false a c))
-    finite-below h = under-finite binary64 false a c (under-of-le binary64 a c (round binary64 false (sizeOf y) unit) own-finite (round-mono binary64 a c (sizeOf y) unit C (pow-pos 1074) h))
-
-    module _ (g : T (finite (round binary64 false a c))) where
-      its-grid : sizeOf (round binary64 false a c) ≡ grid binary64 a c
-      its-grid = size-of-value (round binary64 false a c) false (grid binary64 a c) (round-val binary64 false a c g)
-
-      size-below : a * unit ≤ sizeOf y * c → sizeOf (round binary64 false a c) ≤ sizeOf y
-      size-below h =
-          le-trans (le-of-eq its-grid)
-          (le-trans (grid-order binary64 a c (sizeOf y) unit C (pow-pos 1074) (round-under binary64 false a c g) (round-under binary64 false (sizeOf y) unit own-finite) h) (le-of-eq own-grid))
-
-      size-above : sizeOf y * c ≤ a * unit → sizeOf y ≤ sizeOf (round binary64 false a c)
-      size-above h =
-          le-trans (le-of-eq (sym own-grid))
-          (le-trans (grid-order binary64 (sizeOf y) unit a c (pow-pos 1074) C (round-under binary64 false (sizeOf y) unit own-finite) (round-under binary64 false a c g) h) (le-of-eq (sym its-grid)))
 
 -- ---- a whole number w of units, rounded to p: the two differ by at most 2 ^ -53 of either
 
@@ -279,7 +240,7 @@ module _ (v : ℕ) (A : 0 < v) (L : v ≤ 2 ^ 31) where
     over-before = over-last p (v * d) unit (sizeOf z) (gap (fieldOf a)) d (units-relative (v * d) g) same (sizeOf before) before-size before-gaps
 
     s-finite : T (finite s)
-    s-finite = finite-below after (at-fits (b + 1) after-bits after-field) (at-finite (b + 1) after-bits after-field) p d D under-after
+    s-finite = finite-below after (at-fits (b + 1) after-bits after-field) (at-finite (b + 1) after-bits after-field) false p d D under-after
 
     s-fits : T (fits binary64 s)
     s-fits = round-fits binary64 false p d
@@ -288,10 +249,10 @@ module _ (v : ℕ) (A : 0 < v) (L : v ≤ 2 ^ 31) where
     s-sign = sign-of-value s false (grid binary64 p d) unit (round-val binary64 false p d s-finite)
 
     s-most : sizeOf s ≤ sizeOf after
-    s-most = size-below after (at-fits (b + 1) after-bits after-field) (at-finite (b + 1) after-bits after-field) p d D s-finite under-after
+    s-most = size-below after (at-fits (b + 1) after-bits after-field) (at-finite (b + 1) after-bits after-field) false p d D s-finite under-after
 
     s-least : sizeOf before ≤ sizeOf s
-    s-least = size-above before (at-fits a a-unsigned a-field) (at-finite a a-unsigned a-field) p d D s-finite over-before
+    s-least = size-above before (at-fits a a-unsigned a-field) (at-finite a a-unsigned a-field) false p d D s-finite over-before
 
     step : oneStep s z ≡ true
     unfolding oneStep
@@ -335,23 +296,28 @@ module _ (v : ℕ) (A : 0 < v) (L : v ≤ 2 ^ 31) where
 
 -- ---- the same of doubles
 
--- a whole number times x, and a quotient, by the sizes
-pub times-size : (i : ℕ) → i ≤ 2 ^ 53 → (x : Float) → T (fits binary64 x) → T (finite x) → negative x ≡ false → mul binary64 (ofInt binary64 (pos i)) x ≡ round binary64 false (i * sizeOf x) unit
-unfolding ofInt mul negative
-times-size i l x X f s = go (ofInt binary64 (pos i)) x (round-whole binary64 false i l) f s (exact x X)
+-- ±i times x, by the sizes: z is the double ±i
+pub times-round : (s : Bool) (i : ℕ) (z : Float) → HasValue z s i 1 → (x : Float) → T (fits binary64 x) → T (finite x) → mul binary64 z x ≡ round binary64 (unlike s (negative x)) (i * sizeOf x) unit
+unfolding mul negative
+times-round s i z v x X f = go z x v f (exact x X)
   where
     cross : (a c n d k u : ℕ) → a * 1 ≡ i * c → k * d ≡ n * u → a * n * u ≡ i * k * (c * d)
     cross a c n d k u e h = ap (λ (y : ℕ). y * n * u) (sym (mul-one a) ∙ e) ∙ mul-assoc (i * c) n u ∙ ap (λ (y : ℕ). i * c * y) (sym h) ∙ mul-mul-mul-comm i c k d
 
-    go : (z x : Float) → HasValue z false i 1 → T (finite x) → negative x ≡ false → sizeOf x * den x ≡ num x * unit → mul binary64 z x ≡ round binary64 false (i * sizeOf x) unit
-    go nan x v f s e = absurd v
-    go (inf t) x v f s e = absurd v
-    go (fin t m k) nan v f s e = absurd f
-    go (fin t m k) (inf r) v f s e = absurd f
-    go (fin t m k) (fin r n j) v f s e =
-        ap₂ (λ (q w : Bool). round binary64 (unlike q w) (m * up k * (n * up j)) (down k * down j)) (v .0) s
-        ∙ round-same binary64 false (m * up k * (n * up j)) (down k * down j) (i * sizeOf (fin r n j)) unit (mul-pos (down-pos k) (down-pos j)) (pow-pos 1074)
+    go : (z x : Float) → HasValue z s i 1 → T (finite x) → sizeOf x * den x ≡ num x * unit → mul binary64 z x ≡ round binary64 (unlike s (negative x)) (i * sizeOf x) unit
+    go nan x v f e = absurd v
+    go (inf t) x v f e = absurd v
+    go (fin t m k) nan v f e = absurd f
+    go (fin t m k) (inf r) v f e = absurd f
+    go (fin t m k) (fin r n j) v f e =
+        ap (λ (q : Bool). round binary64 (unlike q r) (m * up k * (n * up j)) (down k * down j)) (v .0)
+        ∙ round-same binary64 (unlike s r) (m * up k * (n * up j)) (down k * down j) (i * sizeOf (fin r n j)) unit (mul-pos (down-pos k) (down-pos j)) (pow-pos 1074)
         (cross (m * up k) (down k) (n * up j) (down j) (sizeOf (fin r n j)) unit (v .1) e)
+
+-- a whole number times x, and a quotient
+pub times-size : (i : ℕ) → i ≤ 2 ^ 53 → (x : Float) → T (fits binary64 x) → T (finite x) → negative x ≡ false → mul binary64 (ofInt binary64 (pos i)) x ≡ round binary64 false (i * sizeOf x) unit
+unfolding ofInt
+times-size i l x X f s = times-round false i (ofInt binary64 (pos i)) (round-whole binary64 false i l) x X f ∙ ap (λ (t : Bool). round binary64 (unlike false t) (i * sizeOf x) unit) s
 
 pub size-pos : (d : Float) → T (fits binary64 d) → T (positive d) → 0 < sizeOf d
 size-pos d D b = first-pos (sizeOf d) (den d) (subst (λ (n : ℕ). 0 < n) (sym (exact d D)) (mul-pos (num-pos d b) (pow-pos 1074)))

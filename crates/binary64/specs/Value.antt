@@ -32,6 +32,12 @@ negative nan = false
 negative (inf s) = s
 negative (fin s m e) = s
 
+-- x without its sign, as `f64::abs` has it (IEEE 754, 5.5.1)
+unfoldable pub abs : Float → Float
+abs nan = nan
+abs (inf s) = inf false
+abs (fin s m e) = fin false m e
+
 -- n with a sign: -n where s is true
 abbrev pub signed : Bool → ℕ → ℤ
 signed s n = cond s (negℤ (pos n)) (pos n)

@@ -7,6 +7,7 @@ ghost use lib.Dec.{T, leb};
 ghost use lib.Ieee.{binary64, ofBits, toBits};
 ghost use lib.Ieee.Scale.{finite};
 ghost use lib.Ieee.Positive.{positive};
+ghost use Rattle.binary64.specs.Value as Value;
 ghost use Rattle.binary64.specs.Value.{halfUp, cutDown, cutUp, signed};
 ghost use Rattle.binary64.specs.code.Parts.{PartsOf};
 ghost use Rattle.binary64.specs.code.Whole.{sizeToward};
@@ -62,6 +63,17 @@ pub fn is_positive(x: f64) -> bool
         f64::to_bits(x) < INFINITE
     } else {
         false
+    }
+}
+
+// x without its sign: its bits but the first. No branch on the sign, which nothing foretells.
+pub fn abs(x: f64) -> f64
+    ensures { λ r. ⌜ r ≡ Value.abs x ⌝ }
+{
+    if x != x {
+        x
+    } else {
+        f64::from_bits(f64::to_bits(x) % SIGN)
     }
 }
 

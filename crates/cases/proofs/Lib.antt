@@ -10,3 +10,4 @@ pub mod ReadPass
 pub mod EdgesPass
 pub mod BoundsPass
 pub mod SurveyPass
+pub mod SidesPass

@@ -11,3 +11,4 @@ pub mod Edges
 pub mod Doubles
 pub mod Bounds
 pub mod Survey
+pub mod Sides

@@ -1,4 +1,4 @@
--- Writing a cell: checks, conversions, refusals and their order, and what the written structure draws.
+-- Writing a cell: checks, conversions, refusals and their order, what the written structure draws, and what its report tells.
 pub mod Limits
 pub mod Stamps
 pub mod Names
@@ -11,3 +11,4 @@ pub mod Agree
 pub mod Draws
 pub mod Demand3
 pub mod Edges
+pub mod Sides

@@ -82,7 +82,7 @@ pub record Converted (policy : GdsRoundingPolicy) (d p : Float) (q : ℤ) : Type
   pub ranged : T (inRange q)
   pub close : Close (allowance policy) d (scaled p) q
 
-ranged-is : (z q : ℤ) → Yields (ranged z) q → T (inRange q) × (z ≡ q)
+pub ranged-is : (z q : ℤ) → Yields (ranged z) q → T (inRange q) × (z ≡ q)
 unfolding ranged
 ranged-is z q y =
     let k = checked _ y in

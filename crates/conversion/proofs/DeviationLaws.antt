@@ -4,23 +4,23 @@ use mathlib.Core.Bool.{Bool, true, false, not, _&&_}
 use mathlib.Core.List.{[], _∷_}
 use lib.IntN.{ℤ}
 use lib.Ieee.{Float, binary64, lt, div, ofInt, ofBits}
-use Rattle.binary64.specs.Value.{zero64}
+use Rattle.binary64.specs.Value.{abs, zero64}
 use Rattle.binary64.specs.Step.{oneStep}
 use Rattle.conversion.specs.declared.Deviation.{Deviation}
 use Rattle.conversion.specs.Made.{made, pure}
-use Rattle.conversion.specs.Convert.{Spot, abs, difference, errorOf, counts, deviations}
+use Rattle.conversion.specs.Convert.{Spot, difference, counts, deviations}
 
 -- 0.0 as the code has it
 pub zero-is : ofBits binary64 0 ≡ zero64
 unfolding ofBits
 zero-is = refl
 
--- ---- whether it counts; a is the size of the difference
+-- ---- whether it counts; x is the difference, and a its magnitude
 
-module _ (d p : Float) (q : ℤ) (a : Float) (e : a ≡ abs (difference d p q)) where
+module _ (d p : Float) (q : ℤ) (x : Float) (w : x ≡ difference d p q) (a : Float) (v : a ≡ abs x) where
   tests : (t u : Bool) → lt (ofBits binary64 0) a ≡ t → oneStep (div binary64 p d) (ofInt binary64 q) ≡ u → counts d p q ≡ t && not u
   unfolding counts
-  tests t u h k = rw (← k, ← h, e, zero-is)
+  tests t u h k = rw (← k, ← h, v, w, zero-is)
 
   none : counts d p q ≡ false → (at : Spot) (z : ℤ) → z ≡ q → pure z ≡ made q (deviations d at p q)
   unfolding deviations
@@ -39,9 +39,9 @@ module _ (d p : Float) (q : ℤ) (a : Float) (e : a ≡ abs (difference d p q)) 
       off false = refl
 
   pub counts-some : lt (ofBits binary64 0) a ≡ true → oneStep (div binary64 p d) (ofInt binary64 q) ≡ false → (at : Spot) (z : ℤ) → z ≡ q
-      → made z (record { field = at .field; axis = at .axis; place = at .place; physical = p; database = z; error = a } ∷ []) ≡ made q (deviations d at p q)
-  unfolding deviations errorOf
-  counts-some h k at z f = ap (λ (y : ℤ). made y (dev y a ∷ [])) f ∙ ap (λ (y : Float). made q (dev q y ∷ [])) e ∙ rw (tests true false h k)
+      → made z (record { field = at .field; axis = at .axis; place = at .place; physical = p; database = z; error = x } ∷ []) ≡ made q (deviations d at p q)
+  unfolding deviations
+  counts-some h k at z f = ap (λ (y : ℤ). made y (dev y x ∷ [])) f ∙ ap (λ (y : Float). made q (dev q y ∷ [])) w ∙ rw (tests true false h k)
     where
       dev : ℤ → Float → Deviation
-      dev y x = record { field = at .field; axis = at .axis; place = at .place; physical = p; database = y; error = x }
+      dev y e = record { field = at .field; axis = at .axis; place = at .place; physical = p; database = y; error = e }

@@ -9,6 +9,7 @@ use lib.ListN.{length}
 use lib.IntN.{ℤ}
 use lib.Ieee.{lt}
 use borrow.Author.Tests.{eq-eqb, ne-eqb}
+use Rattle.binary64.specs.Value.{abs}
 use Rattle.refusal.specs.declared.Refusal.{Refusal}
 use Rattle.conversion.specs.declared.Deviation.{Deviation}
 use Rattle.conversion.specs.declared.Entry.{Entry}
@@ -22,7 +23,7 @@ use Rattle.conversion.specs.code.Fold.{blankEntry, noted, notedAll, stan
 abbrev pub represented : Entry → Deviation → ℕ → ℤ → Entry
 represented e v n z = record { index = e .index; kind = e .kind; field = v .field; axis = v .axis; place = v .place; count = n; physical = v .physical; database = z; error = v .error }
 
-pub larger : (e : Entry) (v : Deviation) (z : ℤ) → z ≡ v .database → lt (e .error) (v .error) ≡ true → represented e v (e .count + 1) z ≡ takes e v
+pub larger : (e : Entry) (v : Deviation) (z : ℤ) → z ≡ v .database → lt (abs (e .error)) (abs (v .error)) ≡ true → represented e v (e .count + 1) z ≡ takes e v
 unfolding takes
 larger e v z f h = ap (represented e v (e .count + 1)) f ∙ rw h
 
@@ -30,7 +31,7 @@ larger e v z f h = ap (represented e v (e .count + 1)) f ∙ rw h
 abbrev pub counted : Entry → Entry
 counted e = record { index = e .index; kind = e .kind; field = e .field; axis = e .axis; place = e .place; count = e .count + 1; physical = e .physical; database = e .database; error = e .error }
 
-pub smaller : (e : Entry) (v : Deviation) → lt (e .error) (v .error) ≡ false → counted e ≡ takes e v
+pub smaller : (e : Entry) (v : Deviation) → lt (abs (e .error)) (abs (v .error)) ≡ false → counted e ≡ takes e v
 unfolding takes
 smaller e v h = rw h
 
@@ -45,9 +46,9 @@ noted-more e v h = rw (ne-eqb (e .count) 0 h)
 -- each deviation adds one to the count
 takes-count : (e : Entry) (v : Deviation) → takes e v .count ≡ e .count + 1
 unfolding takes
-takes-count e v = go (lt (e .error) (v .error)) refl
+takes-count e v = go (lt (abs (e .error)) (abs (v .error))) refl
   where
-    go : (t : Bool) → lt (e .error) (v .error) ≡ t → takes e v .count ≡ e .count + 1
+    go : (t : Bool) → lt (abs (e .error)) (abs (v .error)) ≡ t → takes e v .count ≡ e .count + 1
     go true h = ap (λ (x : Entry). x .count) (sym (larger e v (v .database) refl h))
     go false h = ap (λ (x : Entry). x .count) (sym (smaller e v h))
 

@@ -14,4 +14,5 @@ pub mod DeviationLaws
 pub mod AnswerLaws
 pub mod SignedLaws
 pub mod WholeLaws
+pub mod SideLaws
 pub mod Rows

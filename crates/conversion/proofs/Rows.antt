@@ -34,7 +34,7 @@ use Rattle.conversion.specs.Array.{ArrayPoints, convertArray}
 
 -- every definition on the way, opened, so that this module computes
 unfoldable pub opened : Done
-unfolding Ieee.ofBits Ieee.toBits Ieee.mul Ieee.div Ieee.sub Ieee.neg Ieee.lt Ieee.eq Ieee.ofInt Ieee.round Ieee.sum Ieee.add Ieee.size Value.sizeOf Value.negative Value.scaled Value.floorDiv Value.floorOf Value.ceilOf Value.roundAway Step.orderedBits Step.ordered Step.oneStep Step.nearestDouble Fma.times Fma.plus Fma.fma Physical.physical Physical.passed Entries.firstEntry Entries.takes Entries.entryOf Made._>>=_ Made._>>_ Made.need Convert.abs Convert.difference Convert.errorOf Convert.counts Convert.deviations Convert.onGrid Convert.rounded Convert.ranged Convert.gridValue Convert.databaseValue Convert.convertPhysical Convert.physicalValue Convert.convertBy Convert.convertUnit Convert.arrayEndpoint Points.writePoint Array.physicalPoint Array.physicalSpacing Array.turned Array.writePhysical Array.writeEndpoint Array.convertArray
+unfolding Ieee.ofBits Ieee.toBits Ieee.mul Ieee.div Ieee.sub Ieee.neg Ieee.lt Ieee.eq Ieee.ofInt Ieee.round Ieee.sum Ieee.add Ieee.size Value.sizeOf Value.negative Value.abs Value.scaled Value.floorDiv Value.floorOf Value.ceilOf Value.roundAway Step.orderedBits Step.ordered Step.oneStep Step.nearestDouble Fma.times Fma.plus Fma.fma Physical.physical Physical.passed Entries.firstEntry Entries.takes Entries.entryOf Made._>>=_ Made._>>_ Made.need Convert.difference Convert.counts Convert.deviations Convert.onGrid Convert.rounded Convert.ranged Convert.gridValue Convert.databaseValue Convert.convertPhysical Convert.physicalValue Convert.convertBy Convert.convertUnit Convert.arrayEndpoint Points.writePoint Array.physicalPoint Array.physicalSpacing Array.turned Array.writePhysical Array.writeEndpoint Array.convertArray
 opened = tt
 
 abbrev pub double : ℕ → Float

@@ -1,126 +1,35 @@
 -- One step between two doubles of one sign, by their bits but the sign. Assumes nothing.
 use mathlib.Core.Path.{_≡_, refl, sym, ap, ap₂, _∙_, subst}
-use mathlib.Core.Bool.{Bool, true, false, not, _&&_, true≢false}
-use Prim.Native.Nat.{ℕ, zero, suc, _+_, _-_, _*_, _/_, _%_, _^_, _≤_, _<_}
-use native.Mathlib.Nat.{le-trans, le-of-eq, lt-of-lt-of-le, lt-of-le-of-lt, mul-one, mod-eq-of-lt}
+use mathlib.Core.Bool.{Bool, true, false, _&&_}
+use Prim.Native.Nat.{ℕ, _+_, _-_, _*_, _/_, _%_, _^_, _≤_, _<_}
+use native.Mathlib.Nat.{le-trans, le-of-eq, lt-of-lt-of-le, lt-of-le-of-lt, mul-one}
 use native.Mathlib.Omega.{arith}
 use lib.Dec.{T, leb, lit<, lit≤}
 use lib.Pow.{pow-pos, pow-add, pow-mono, shl-lt}
-use lib.IntN.{ℤ, pos}
-use lib.Ieee.{Float, nan, inf, fin, binary64, isNan, nanBits, fits, ofBits, toBits, round, ne, neg, ofInt}
-use lib.Ieee.Bits.{nanBits-is, ofBits-toBits, toBits-lt}
-use lib.Ieee.Compare.{differs-from-itself}
+use lib.IntN.{pos}
+use lib.Ieee.{Float, nan, inf, fin, binary64, fits, toBits, round, ofInt}
 use lib.Ieee.Exact.{HasValue, round-exact}
 use lib.Ieee.Fits.{round-fits}
 use lib.Ieee.Scale.{finite}
 use borrow.Author.Tests.{leb-true, leb-false, le-leb, lt-leb}
-use Rattle.binary64.specs.Value.{unit, negative}
+use Rattle.binary64.specs.Value.{unit, negative, abs}
 use Rattle.binary64.specs.Step.{orderedBits, ordered, oneStep}
 use Rattle.binary64.proofs.ValueLaws.{sign-of-value}
 use Rattle.binary64.proofs.WholeLaws.{nearest-small}
 use Rattle.binary64.proofs.NearestLaws.{double-minus, double-plus}
 use Rattle.binary64.proofs.StepLaws.{within-one}
-use Rattle.conversion.specs.Convert.{abs}
+use Rattle.binary64.proofs.AbsLaws.{lower, lower-small, bits-plus, bits-minus, lower-is, abs-neg, abs-plus}
 
--- the bits of x but the sign
-abbrev lower : Float → ℕ
-lower x = toBits binary64 (abs x)
-
-fits-minus : (s : Bool) (m : ℕ) (e : ℤ) → T (fits binary64 (fin s m e)) → T (fits binary64 (fin true m e))
-unfolding fits
-fits-minus s zero e F = F
-fits-minus s (suc m) e F = F
-
-with-sign : (m : ℕ) (e : ℤ) → toBits binary64 (fin true m e) ≡ 2 ^ 63 + toBits binary64 (fin false m e)
-unfolding toBits
-with-sign m e = go _ _
-  where
-    go : (a b : ℕ) → 2 ^ 63 + a + b ≡ 2 ^ 63 + (0 + a + b)
-    go a b = omega arith
+-- ---- the ordered bits of a double, by its sign
 
 module _ (x : Float) (F : T (fits binary64 x)) (f : T (finite x)) where
-  lower-small : lower x < 2 ^ 63
-  unfolding abs
-  lower-small = go x F f
-    where
-      less : (a b : ℕ) → a ≡ 2 ^ 63 + b → a < 2 ^ 64 → b < 2 ^ 63
-      less a b e h = omega arith
-
-      go : (x : Float) → T (fits binary64 x) → T (finite x) → toBits binary64 (abs x) < 2 ^ 63
-      go nan F f = absurd f
-      go (inf s) F f = absurd f
-      go (fin s m e) F f = less _ _ (with-sign m e) (toBits-lt binary64 (fin true m e) (fits-minus s m e F))
-
-  bits-plus : negative x ≡ false → toBits binary64 x ≡ lower x
-  unfolding abs negative
-  bits-plus h = go x f h
-    where
-      go : (x : Float) → T (finite x) → negative x ≡ false → toBits binary64 x ≡ toBits binary64 (abs x)
-      go nan f h = absurd f
-      go (inf s) f h = absurd f
-      go (fin true m e) f h = absurd (true≢false h)
-      go (fin false m e) f h = refl
-
-  bits-minus : negative x ≡ true → toBits binary64 x ≡ 2 ^ 63 + lower x
-  unfolding abs negative
-  bits-minus h = go x f h
-    where
-      go : (x : Float) → T (finite x) → negative x ≡ true → toBits binary64 x ≡ 2 ^ 63 + toBits binary64 (abs x)
-      go nan f h = absurd f
-      go (inf s) f h = absurd f
-      go (fin true m e) f h = with-sign m e
-      go (fin false m e) f h = absurd (true≢false (sym h))
-
-  -- what the code takes of the bits
-  lower-is : toBits binary64 x % 2 ^ 63 ≡ lower x
-  lower-is = go (negative x) refl
-    where
-      twice : (a : ℕ) → a < 2 ^ 63 → (2 ^ 63 + a) % 2 ^ 63 ≡ a
-      twice a h = omega arith
-
-      go : (t : Bool) → negative x ≡ t → toBits binary64 x % 2 ^ 63 ≡ lower x
-      go true h = ap (λ (n : ℕ). n % 2 ^ 63) (bits-minus h) ∙ twice (lower x) lower-small
-      go false h = ap (λ (n : ℕ). n % 2 ^ 63) (bits-plus h) ∙ mod-eq-of-lt lower-small
-
   ordered-plus : negative x ≡ false → ordered x ≡ lower x + 2 ^ 63
   unfolding ordered orderedBits
-  ordered-plus h = ap orderedBits (bits-plus h) ∙ rw (lt-leb (2 ^ 63) (lower x) lower-small)
+  ordered-plus h = ap orderedBits (bits-plus x F f h) ∙ rw (lt-leb (2 ^ 63) (lower x) (lower-small x F f))
 
   ordered-minus : negative x ≡ true → ordered x ≡ 2 ^ 64 - 1 - (2 ^ 63 + lower x)
   unfolding ordered orderedBits
-  ordered-minus h = ap orderedBits (bits-minus h) ∙ rw (le-leb (2 ^ 63) (2 ^ 63 + lower x) (omega arith))
-
--- ---- the size of a double by its bits
-
-fits-plus : (s : Bool) (m : ℕ) (e : ℤ) → T (fits binary64 (fin s m e)) → T (fits binary64 (fin false m e))
-unfolding fits
-fits-plus s zero e F = F
-fits-plus s (suc m) e F = F
-
-infinite-bits : (s : Bool) → ofBits binary64 (toBits binary64 (inf s) % 2 ^ 63) ≡ inf false
-unfolding ofBits toBits
-infinite-bits true = refl
-infinite-bits false = refl
-
-pub abs-bits : (x : Float) → T (fits binary64 x) → T (not (isNan x)) → ofBits binary64 (toBits binary64 x % 2 ^ 63) ≡ abs x
-unfolding abs isNan
-abs-bits nan F n = absurd n
-abs-bits (inf s) F n = infinite-bits s
-abs-bits (fin s m e) F n = ap (ofBits binary64) (lower-is (fin s m e) F tt) ∙ ofBits-toBits binary64 (fin false m e) (fits-plus s m e F)
-
--- they are no NaN's
-pub abs-pattern : (x : Float) → T (fits binary64 x) → T (not (isNan x)) → T (not (nanBits binary64 (toBits binary64 x % 2 ^ 63)))
-unfolding abs isNan
-abs-pattern x F n = subst (λ (t : Bool). T (not t)) (sym (nanBits-is binary64 (toBits binary64 x % 2 ^ 63) ∙ ap isNan (abs-bits x F n))) (go x n)
-  where
-    go : (x : Float) → T (not (isNan x)) → T (not (isNan (abs x)))
-    go nan n = n
-    go (inf s) n = tt
-    go (fin s m e) n = tt
-
-pub abs-nan : (x : Float) → ne x x ≡ true → x ≡ abs x
-unfolding abs
-abs-nan x h = let e : x ≡ nan = differs-from-itself x (subst T (sym h) tt) in e ∙ ap abs (sym e)
+  ordered-minus h = ap orderedBits (bits-minus x F f h) ∙ rw (le-leb (2 ^ 63) (2 ^ 63 + lower x) (omega arith))
 
 same-leb : (a b c d : ℕ) → (a ≤ b → c ≤ d) → (c ≤ d → a ≤ b) → leb a b ≡ leb c d
 same-leb a b c d f g = go (leb a b) (leb c d) refl refl
@@ -184,19 +93,6 @@ pub value-finite : (x : Float) (s : Bool) (n : ℕ) → HasValue x s n 1 → T (
 value-finite nan s n h = h
 value-finite (inf t) s n h = h
 value-finite (fin t m e) s n h = tt
-
-abs-neg : (x : Float) → abs (neg x) ≡ abs x
-unfolding abs neg
-abs-neg nan = refl
-abs-neg (inf s) = refl
-abs-neg (fin s m e) = refl
-
-abs-plus : (x : Float) → T (finite x) → negative x ≡ false → abs x ≡ x
-unfolding abs negative
-abs-plus nan f h = absurd f
-abs-plus (inf s) f h = absurd f
-abs-plus (fin true m e) f h = absurd (true≢false h)
-abs-plus (fin false m e) f h = refl
 
 -- one step between x and the whole number n with x's sign, by the bits
 pub snap-step : (x : Float) → T (fits binary64 x) → T (finite x) → (n : ℕ) → n < 2 ^ 53 → within (toBits binary64 x % 2 ^ 63) (toBits binary64 (ofInt binary64 (pos n))) ≡ oneStep x (round binary64 (negative x) n 1)

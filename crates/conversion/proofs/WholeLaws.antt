@@ -12,7 +12,7 @@ use lib.IntN.{ℤ, pos, negsuc, negℤ, natAbs, one, *ℤ-one, *ℤ-zero, +ℤ-i
 use lib.Ieee.{Float, binary64, eq, div, ofInt}
 use lib.Ieee.Bits.{is-true as on}
 use lib.Ieee.Scale.{finite}
-use Rattle.binary64.specs.Value.{roundAway, zero64, one64}
+use Rattle.binary64.specs.Value.{roundAway, abs, zero64, one64}
 use Rattle.binary64.specs.Step.{oneStep}
 use Rattle.binary64.proofs.Exact.{Is, is-finite, is-same, one-is, none-is, int-is, neg-is, mul-is, div-is, fma-is, is-round, nearest-is, is-beside}
 use Rattle.refusal.specs.declared.Refusal.the-variants as R
@@ -22,7 +22,7 @@ use Rattle.units.specs.Integer.{integer, integerPoint}
 use Rattle.conversion.specs.declared.GdsRoundingPolicy.{GdsRoundingPolicy}
 use Rattle.conversion.specs.declared.GdsRoundingPolicy.the-variants.{Nearest}
 use Rattle.conversion.specs.Made.{made, pure, _>>_}
-use Rattle.conversion.specs.Convert.{Spot, onGrid, inRange, ranged, difference, abs, deviations, convertPhysical, physicalValue, convertBy, convertUnit, arrayEndpoint}
+use Rattle.conversion.specs.Convert.{Spot, onGrid, inRange, ranged, difference, deviations, convertPhysical, physicalValue, convertBy, convertUnit, arrayEndpoint}
 use Rattle.conversion.specs.Points.{writePoint, writeLength}
 use Rattle.conversion.specs.Array.{physicalPoint, physicalSpacing, physicalAt, turned, endpointPhysical, writePhysical, writeEndpoint, convertArray}
 use Rattle.conversion.proofs.MadeLaws.{need-on, then-pure}
@@ -55,13 +55,13 @@ range-abs : (z : ℤ) → T (inRange z) → natAbs z ≤ 2 ^ 31
 range-abs (pos n) h = let k = ltb→lt n (2 ^ 31) h in omega arith
 range-abs (negsuc n) h = ltb→lt n (2 ^ 31) h
 
-small : (z : ℤ) → T (inRange z) → natAbs z ≤ 2 ^ 53
+pub small : (z : ℤ) → T (inRange z) → natAbs z ≤ 2 ^ 53
 small z h = le-trans (range-abs z h) (lit≤ tt)
 
 module _ (d p : Float) (z : ℤ) (r : T (inRange z)) (at : Spot) where
   module _ (k : oneStep (div binary64 p d) (ofInt binary64 z) ≡ true) where
     unreported : pure z ≡ made z (deviations d at p z)
-    unreported = counts-beside d p z (abs (difference d p z)) refl k at z refl
+    unreported = counts-beside d p z (difference d p z) refl (abs (difference d p z)) refl k at z refl
 
     pub convert-beside : (policy : GdsRoundingPolicy) → T (finite p) → T (finite (div binary64 p d)) → onGrid (div binary64 p d) ≡ true → roundAway (div binary64 p d) ≡ z → convertPhysical policy d at p ≡ pure z
     unfolding convertPhysical

@@ -1,14 +1,14 @@
--- One conversion to the database grid (document 01, "Result two" and "Result three"; write/conversion.rs). d is the database unit, p a physical value. Assumes nothing.
+-- One conversion to the database grid (document 01, "Result two" and "Result three"; document 02, request 2; write/conversion.rs). d is the database unit, p a physical value. Assumes nothing.
 use mathlib.Core.List.{List, [], _∷_}
 use mathlib.Core.Option.{Option, none, some}
-use mathlib.Core.Bool.{Bool, false, not, _&&_, cond}
+use mathlib.Core.Bool.{Bool, not, _&&_, cond}
 use Prim.Native.Nat.{ℕ, _^_}
 use lib.Dec.{ltb}
 use lib.IntN.{ℤ, pos, negsuc}
-use lib.Ieee.{Float, nan, inf, fin, binary64, sub, mul, div, lt, ofInt}
+use lib.Ieee.{Float, binary64, sub, mul, div, lt, ofInt}
 use lib.Ieee.Scale.{finite}
 use lib.Ieee.Positive.{positive}
-use Rattle.binary64.specs.Value.{roundAway, floorOf, ceilOf, zero64}
+use Rattle.binary64.specs.Value.{roundAway, floorOf, ceilOf, abs, zero64}
 use Rattle.binary64.specs.Step.{oneStep, nearestDouble}
 use Rattle.refusal.specs.declared.Refusal.the-variants as R
 use Rattle.units.specs.declared.Unit.{Unit}
@@ -59,20 +59,11 @@ databaseValue policy d p = do
 
 -- ---- the deviation
 
-unfoldable pub abs : Float → Float
-abs nan = nan
-abs (inf s) = inf false
-abs (fin s m e) = fin false m e
-
--- p − q × d, "two roundings, q the database value"
+-- "the deviation q × d − p with its sign, rounded as before" (document 02, request 2): two roundings, q the database value
 unfoldable pub difference : Float → Float → ℤ → Float
-difference d p q = sub binary64 p (mul binary64 (ofInt binary64 q) d)
+difference d p q = sub binary64 (mul binary64 (ofInt binary64 q) d) p
 
--- what is reported of it: "the error is |p − q × d|"
-unfoldable pub errorOf : Float → Float → ℤ → Float
-errorOf d p q = abs (difference d p q)
-
--- "It counts where it is above 0 and s and q differ by more than one step, q taken as a double with 0 positive."
+-- "It counts where it is above 0 and s and q differ by more than one step, q taken as a double with 0 positive." (document 01): above 0 is its magnitude
 unfoldable pub counts : Float → Float → ℤ → Bool
 counts d p q = lt zero64 (abs (difference d p q)) && not (oneStep (div binary64 p d) (ofInt binary64 q))
 
@@ -88,7 +79,7 @@ pub record Spot : Type 0 where
 unfoldable pub deviations : Float → Spot → Float → ℤ → List Deviation
 deviations d at p q =
     cond (counts d p q)
-    (record { field = at .field; axis = at .axis; place = at .place; physical = p; database = q; error = errorOf d p q } ∷ [])
+    (record { field = at .field; axis = at .axis; place = at .place; physical = p; database = q; error = difference d p q } ∷ [])
     []
 
 -- `convert_physical`: the database value of p, with its deviation

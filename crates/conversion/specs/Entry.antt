@@ -1,4 +1,4 @@
--- The report entry of an element (document 01, "Result three"; `record_quantization` of write/conversion.rs). Assumes nothing.
+-- The report entry of an element (document 01, "Result three"; document 02, request 2; `record_quantization` of write/conversion.rs). Assumes nothing.
 use mathlib.Core.List.{List, [], _∷_, _++_}
 use mathlib.Core.Bool.{Bool, true, false, cond}
 use Prim.Native.Nat.{ℕ, _+_}
@@ -6,6 +6,7 @@ use lib.Ieee.{Float, binary64, lt, toBits}
 use mir.Val.{ofZ}
 use mir.Syntax.{w32}
 use Rattle.big_endian.specs.Big.{bytesOf}
+use Rattle.binary64.specs.Value.{abs}
 use Rattle.conversion.specs.declared.Deviation.{Deviation}
 use Rattle.conversion.specs.declared.Entry.{Entry}
 
@@ -23,9 +24,9 @@ firstEntry i kind v = record {
   error = v .error;
 }
 
--- "A report entry takes one more deviation and gives back the entry; only a larger error replaces the representative."
+-- "A report entry takes one more deviation and gives back the entry" (document 01); "A deviation replaces the representative only if its magnitude is larger." (document 02, request 2)
 unfoldable pub takes : Entry → Deviation → Entry
-takes e v = go (lt (e .error) (v .error))
+takes e v = go (lt (abs (e .error)) (abs (v .error)))
   where
     go : Bool → Entry
     go true = record {
@@ -91,7 +92,7 @@ reportWith lead (e ∷ es) = (lead ++ entryBytes e) ++ reportWith lead es
 abbrev pub reportBytes : List Entry → List ℕ
 reportBytes es = reportWith [] es
 
--- the largest of x and the entries' errors
+-- the largest of x and the magnitudes of the entries' errors: "The greatest error stays a magnitude."
 unfoldable pub greatestFrom : Float → List Entry → Float
 greatestFrom x [] = x
-greatestFrom x (e ∷ es) = greatestFrom (cond (lt x (e .error)) (e .error) x) es
+greatestFrom x (e ∷ es) = greatestFrom (cond (lt x (abs (e .error))) (abs (e .error)) x) es

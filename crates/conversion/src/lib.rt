@@ -223,22 +223,11 @@ fn grid_value(policy: GdsRoundingPolicy, s: f64) -> DatabaseValue
     }
 }
 
-// The size of x: its bits but the sign. No branch on the sign, which nothing foretells.
-fn abs(x: f64) -> f64
-    ensures { λ r. ⌜ r ≡ Convert.abs x ⌝ }
-{
-    if x != x {
-        x
-    } else {
-        f64::from_bits(f64::to_bits(x) % SIGN)
-    }
-}
-
-// p - q * d, two roundings.
+// q * d - p, two roundings.
 fn difference(d: f64, p: f64, q: i32) -> f64
     ensures { λ r. ⌜ r ≡ Convert.difference d p q ⌝ }
 {
-    p - (q as f64) * d
+    (q as f64) * d - p
 }
 
 // A database value q with its deviation, if that counts. s is p / d, which every caller has.
@@ -249,8 +238,9 @@ fn quantization(d: f64, p: f64, s: f64, q: i32) -> Conversion
     if binary64::within_one_ulp(s, q as f64) {
         return Conversion::Converted { value: q };
     }
-    let error = abs(difference(d, p, q));
-    if 0.0 < error {
+    let error = difference(d, p, q);
+    let magnitude = binary64::abs(error);
+    if 0.0 < magnitude {
         return Conversion::Quantized {
             value: q,
             physical: p,
@@ -365,7 +355,7 @@ pub fn endpoint_physical(spacing: f64, count: u32, origin: f64) -> f64
     mul_add::mul_add(spacing, count as f64, origin)
 }
 
-// One quantized field: which one, its physical value, its database value and the error between them.
+// One quantized field: which one, its physical value p, its database value q, and the error q * d - p with its sign.
 pub struct Deviation {
     pub field: u8,
     pub axis: u8,
@@ -375,7 +365,7 @@ pub struct Deviation {
     pub error: f64,
 }
 
-// A report entry: the deviations of one element, counted, with one of the largest error to stand for them.
+// A report entry: the deviations of one element, counted, with one of the largest magnitude to stand for them.
 pub struct Entry {
     pub index: u32,
     pub kind: u8,
@@ -389,13 +379,15 @@ pub struct Entry {
 }
 
 impl Entry {
-    // One more deviation; only a larger error replaces the representative.
+    // One more deviation; only one of larger magnitude replaces the representative.
     pub fn add(mut self, v: Deviation) -> Self
         requires { ⌜ Spare 1 self ⌝ }
         ensures { λ r. ⌜ r ≡ takes self v ⌝ }
     {
         self.count = self.count + 1;
-        if self.error < v.error {
+        let held = binary64::abs(self.error);
+        let new = binary64::abs(v.error);
+        if held < new {
             self.field = v.field;
             self.axis = v.axis;
             self.place = v.place;

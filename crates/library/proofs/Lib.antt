@@ -7,3 +7,4 @@ pub mod OrderLaws
 pub mod MeasureLaws
 pub mod DrawsLaws
 pub mod AloneLaws
+pub mod SideLaws

@@ -5,3 +5,4 @@ pub mod Order
 pub mod Agree
 pub mod Draws
 pub mod Alone
+pub mod Sides

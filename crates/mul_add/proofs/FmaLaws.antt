@@ -14,6 +14,7 @@ use lib.Ieee.Scale.{round-same, finite}
 use Rattle.binary64.specs.Value.{unit, sizeOf, negative}
 use Rattle.binary64.specs.Fma.{none, endless, plus, fma}
 use Rattle.binary64.proofs.ValueLaws.{exact}
+use Rattle.binary64.proofs.AbsLaws.{round-zero}
 use Rattle.mul_add.proofs.SumLaws.{sum-same, sum-nothing}
 
 -- ---- not finite
@@ -72,13 +73,6 @@ add-zero-is f s (inf t) c = absurd c
 add-zero-is f s (fin t n d) c = refl
 
 -- ---- zero
-at-one : (s : Bool) → round binary64 s 0 1 ≡ fin s 0 (pos 0)
-unfolding round
-at-one s = refl
-
-round-zero : (s : Bool) (d : ℕ) → 0 < d → round binary64 s 0 d ≡ fin s 0 (pos 0)
-round-zero s d D = round-same binary64 s 0 d 0 1 D (lit< tt) (zero-mul 1 ∙ sym (zero-mul d)) ∙ at-one s
-
 no-num : (x : Float) → T (fits binary64 x) → sizeOf x ≡ 0 → num x ≡ 0
 no-num x X e = eq-of-mul-eq-mul-right unit (pow-pos (low binary64)) (num x) 0 (sym (exact x X) ∙ ap (λ (z : ℕ). z * den x) e ∙ zero-mul (den x) ∙ sym (zero-mul unit))
 

@@ -9,7 +9,7 @@ use lib.Dec.{T, eqb}
 use lib.ListN.{length}
 use lib.Ieee.{Float, lt}
 use borrow.Author.Tests.{eq-eqb, ne-eqb, not-false}
-use Rattle.binary64.specs.Value.{zero64}
+use Rattle.binary64.specs.Value.{abs, zero64}
 use Rattle.refusal.specs.declared.Refusal.{Refusal}
 use Rattle.conversion.specs.declared.GdsRoundingPolicy.{GdsRoundingPolicy}
 use Rattle.conversion.specs.declared.Entry.{Entry}
@@ -51,9 +51,11 @@ pub greatest-nothing : (g : Float) (e : Entry) → e .count ≡ 0 → g ≡ grea
 unfolding greatestFrom
 greatest-nothing g e h = sym (ap (greatestFrom g) (stands-not e h))
 
-pub greatest-stands : (g : Float) (e : Entry) (t : Bool) → (e .count ≡ 0 → ⊥) → lt g (e .error) ≡ t → cond t (e .error) g ≡ greatestFrom g (standing e)
+-- a is the magnitude of its error
+pub greatest-stands : (g a : Float) (e : Entry) (t : Bool) → (e .count ≡ 0 → ⊥) → a ≡ abs (e .error) → lt g a ≡ t → cond t a g ≡ greatestFrom g (standing e)
 unfolding greatestFrom
-greatest-stands g e t h k = sym (ap (greatestFrom g) (stands e h) ∙ ap (λ (u : Bool). cond u (e .error) g) k)
+greatest-stands g a e t h w k =
+    sym (ap (greatestFrom g) (stands e h) ∙ ap (λ (x : Float). cond (lt g x) x g) (sym w) ∙ ap (λ (u : Bool). cond u a g) k)
 
 -- ---- pairs and blocks
 

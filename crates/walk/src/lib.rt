@@ -96,15 +96,16 @@ fn entries_of(entry: Entry) -> usize
     1
 }
 
-// The greater of g and the error of the entry, if it stands.
+// The greater of g and the magnitude of the entry's error, if it stands.
 fn greater_error(g: f64, entry: Entry) -> f64
     ensures { λ r. ⌜ r ≡ greatestFrom g (standing entry) ⌝ }
 {
     if entry.count == 0 {
         return g;
     }
-    if g < entry.error {
-        return entry.error;
+    let magnitude = binary64::abs(entry.error);
+    if g < magnitude {
+        return magnitude;
     }
     g
 }

@@ -15,7 +15,7 @@ int-to-float-result c = search needs
 returns : tie.Need-returns
 unfolding difference
 returns c = let a = c .before .args in
-    ap (λ (y : ℤ). sub binary64 (a .p) (mul binary64 (ofInt binary64 y) (a .d))) (toZ-ofZ w32 (a .q) (c .before .fits .q))
+    ap (λ (y : ℤ). sub binary64 (mul binary64 (ofInt binary64 y) (a .d)) (a .p)) (toZ-ofZ w32 (a .q) (c .before .fits .q))
 
 pub difference-spec : {M : Type 1} → statement M
 difference-spec = tie.close (tie.spec int-to-float-result returns)

@@ -1,12 +1,12 @@
--- `conversion::abs` meets its contract, by the bits of x; a NaN is its own size. Assumes nothing.
+-- `binary64::abs` meets its contract, by the bits of x; a NaN is its own size. Assumes nothing.
 use mathlib.Core.Path.{sym, subst}
 use mathlib.Core.Bool.{not}
 use lib.Dec.{T}
 use lib.Ieee.{binary64, fits, isNan}
 use Rattle.binary64.proofs.Bits.{same-no-nan}
-use Rattle.conversion.proofs.SnapLaws.{abs-bits, abs-pattern, abs-nan}
-use Rattle.conversion.proofs.abs.Statement.{statement}
-use Rattle.conversion.proofs.abs.Tie as tie
+use Rattle.binary64.proofs.AbsLaws.{abs-bits, abs-pattern, abs-nan}
+use Rattle.binary64.proofs.abs.Statement.{statement}
+use Rattle.binary64.proofs.abs.Tie as tie
 
 -- what owning an `f64` tells: the format holds it
 held : (c : tie.Start) → T (fits binary64 (c .args .x))

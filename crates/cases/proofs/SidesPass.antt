@@ -1,0 +1,178 @@
+-- Deviations, which of them stands for an element, and the greatest error are as known by hand, computed; and no clause of what is claimed of the sign can be left out. Assumes nothing.
+use mathlib.Core.Path.{_≡_, refl, sym, ap, subst}
+use mathlib.Core.Bool.{not, true≢false}
+use mathlib.Core.Option.{Option, none, some}
+use mathlib.Core.List.{List, [], _∷_, _++_}
+use Prim.Native.Nat.{ℕ, suc}
+use lib.Dec.{T, eqb}
+use lib.IntN.{ℤ, pos, _*ℤ_}
+use lib.Signed.{_<ℤ_}
+use lib.Ieee.{Float, binary64, fits, ofBits, toBits, sub, mul, div, lt, ofInt}
+use lib.Ieee.Fits.{and-l}
+use Rattle.parsing.specs.All.{All, more}
+use Rattle.binary64.specs.Value.{abs, scaled, zero64}
+use Rattle.binary64.specs.Step.{oneStep}
+use Rattle.conversion.specs.declared.Deviation.{Deviation}
+use Rattle.conversion.specs.declared.Entry.{Entry}
+use Rattle.conversion.specs.Made.{Made, refused, made}
+use Rattle.conversion.specs.Convert.{Spot, difference, counts, convertPhysical, arrayEndpoint}
+use Rattle.conversion.specs.Entry.{entryOf, greatestFrom}
+use Rattle.conversion.specs.Side.{TellsSide, EntryTellsSide, errorOf, SameMagnitude}
+use Rattle.stream.specs.Structure.{Structure}
+use Rattle.stream.specs.Library.{FileHead}
+use Rattle.cell.specs.Cell as C
+use Rattle.cell.specs.Cell.{cellStructure}
+use Rattle.cell.specs.Sides.{EntriesTellSides}
+use Rattle.library.specs.Library as L
+use Rattle.library.specs.Library.{WrittenCell, libraryFile}
+use Rattle.library.specs.Sides.{LibraryTellsSides}
+use Rattle.cases.specs.Doubles.{minus, half, one, three}
+use Rattle.cases.specs.Sides.{quarter, twoAndQuarter, twoAndThreeQuarters, Row, rows, Corner, corners, Choice, choices, Greatest, greatests}
+use Rattle.cases.proofs.Open.{opened}
+
+abbrev double : ℕ → Float
+double b = ofBits binary64 b
+
+abbrev somewhere : Spot
+somewhere = record { field = 0; axis = 0; place = 0 }
+
+-- the error of the one deviation, if there is one
+abbrev errorIn : List Deviation → Option ℕ
+errorIn [] = none
+errorIn (v ∷ []) = some (toBits binary64 (v .error))
+errorIn (v ∷ w ∷ vs) = none
+
+-- ---- single deviations
+
+abbrev said : Row → Made ℤ → List Row
+said r (refused x) = []
+said r (made q vs) = record { policy = r .policy; unit = r .unit; physical = r .physical; database = q; error = errorIn vs } ∷ []
+
+abbrev found : List Row → List (List Row)
+found [] = []
+found (r ∷ rs) = said r (convertPhysical (r .policy) (double (r .unit)) somewhere (double (r .physical))) ∷ found rs
+
+abbrev each : {A : Type 0} → List A → List (List A)
+each [] = []
+each (x ∷ xs) = (x ∷ []) ∷ each xs
+
+pub sides-pass : found rows ≡ each rows
+unfolding opened rows
+sides-pass = refl
+
+abbrev cornerError : Made ℤ → Option ℕ
+cornerError (refused x) = none
+cornerError (made q vs) = errorIn vs
+
+abbrev cornersFound : List Corner → List Corner
+cornersFound [] = []
+cornersFound (c ∷ cs) =
+    record { origin = c .origin; step = c .step; count = c .count; physical = c .physical; error = cornerError (arrayEndpoint (double one) somewhere (c .origin) (c .step) (c .count) (double (c .physical))) }
+    ∷ cornersFound cs
+
+pub corners-pass : cornersFound corners ≡ corners
+unfolding opened corners
+corners-pass = refl
+
+-- ---- which stands for an element
+
+-- deviations with these errors, each at its own place
+abbrev deviationsFrom : ℕ → List ℕ → List Deviation
+deviationsFrom k [] = []
+deviationsFrom k (e ∷ es) = record { field = 0; axis = 0; place = k; physical = zero64; database = pos 0; error = double e } ∷ deviationsFrom (suc k) es
+
+abbrev chosen : List ℕ → List Entry → List Choice
+chosen es [] = []
+chosen es (e ∷ fs) = record { errors = es; place = e .place; error = toBits binary64 (e .error) } ∷ chosen es fs
+
+abbrev choicesFound : List Choice → List (List Choice)
+choicesFound [] = []
+choicesFound (c ∷ cs) = chosen (c .errors) (entryOf 0 4 (deviationsFrom 0 (c .errors))) ∷ choicesFound cs
+
+pub choices-pass : choicesFound choices ≡ each choices
+unfolding opened choices
+choices-pass = refl
+
+-- ---- the greatest error
+
+abbrev entriesWith : List ℕ → List Entry
+entriesWith [] = []
+entriesWith (e ∷ es) = record { index = 0; kind = 4; field = 0; axis = 0; place = 0; count = 1; physical = zero64; database = pos 0; error = double e } ∷ entriesWith es
+
+abbrev greatestsFound : List Greatest → List Greatest
+greatestsFound [] = []
+greatestsFound (g ∷ gs) = record { errors = g .errors; greatest = toBits binary64 (greatestFrom zero64 (entriesWith (g .errors))) } ∷ greatestsFound gs
+
+pub greatests-pass : greatestsFound greatests ≡ greatests
+unfolding opened greatests
+greatests-pass = refl
+
+-- ---- no clause of `TellsSide` can be left out: each of these four breaks one alone
+
+-- on the grid, and said to be above; below; above the physical value, and not said to be; below it, and not
+pub none-above : TellsSide (double one) (double three) (pos 3) (double quarter) → ⊥
+unfolding opened
+none-above t = t .above tt .lt
+
+pub none-below : TellsSide (double one) (double three) (pos 3) (double (minus quarter)) → ⊥
+unfolding opened
+none-below t = t .below tt .lt
+
+pub unsaid-above : TellsSide (double one) (double twoAndThreeQuarters) (pos 3) zero64 → ⊥
+unfolding opened
+unsaid-above t = t .is-above (record { lt = tt })
+
+pub unsaid-below : TellsSide (double one) (double twoAndQuarter) (pos 2) zero64 → ⊥
+unfolding opened
+unsaid-below t = t .is-below (record { lt = tt })
+
+-- nor of `EntryTellsSide`: an entry on the right side with another error than its own; and one on the grid, whose error is none
+abbrev deviating : ℕ → ℕ → Entry
+deviating p e = record { index = 0; kind = 4; field = 0; axis = 0; place = 0; count = 1; physical = double p; database = pos 3; error = double e }
+
+pub other-error : EntryTellsSide (double one) (deviating twoAndThreeQuarters half) → ⊥
+unfolding opened
+other-error t = true≢false (ap (λ (x : Float). eqb (toBits binary64 x) half) (t .error))
+
+pub no-error : EntryTellsSide (double one) (deviating three 0) → ⊥
+unfolding opened
+no-error t = t .counted
+
+-- ---- what the claims give of any entry, written out
+
+-- an element of a list
+at-place : {A : Type 0} {P : A → Type 0} (s : List A) (a : A) (t : List A) → All P (s ++ a ∷ t) → P a
+at-place [] a t (more h hs) = h
+at-place (b ∷ s) a t (more h hs) = at-place s a t hs
+
+-- q × d − p by a product and a difference, not 0, above 0 exactly where q × d is greater than p, below 0 exactly where it is less
+pub record Written (d : Float) (e : Entry) : Type 0 where
+  pub some : T (lt zero64 (abs (e .error)))
+  pub error : toBits binary64 (e .error) ≡ toBits binary64 (sub binary64 (mul binary64 (ofInt binary64 (e .database)) d) (e .physical))
+  pub above : T (lt zero64 (e .error)) → scaled (e .physical) <ℤ (e .database *ℤ scaled d)
+  pub greater : scaled (e .physical) <ℤ (e .database *ℤ scaled d) → T (lt zero64 (e .error))
+  pub below : T (lt (e .error) zero64) → (e .database *ℤ scaled d) <ℤ scaled (e .physical)
+  pub less : (e .database *ℤ scaled d) <ℤ scaled (e .physical) → T (lt (e .error) zero64)
+
+-- what counts is above 0 in magnitude
+above-none : (d p : Float) (q : ℤ) → T (counts d p q) → T (lt zero64 (abs (difference d p q)))
+unfolding counts
+above-none d p q h = and-l (lt zero64 (abs (difference d p q))) (not (oneStep (div binary64 p d) (ofInt binary64 q))) h
+
+entry-written : (d : Float) (e : Entry) → EntryTellsSide d e → Written d e
+unfolding difference
+entry-written d e t = record { some = subst (λ (x : Float). T (lt zero64 (abs x))) (sym (t .error)) (above-none d (e .physical) (e .database) (t .counted)); error = ap (toBits binary64) (t .error); above = t .side .above; greater = t .side .is-above; below = t .side .below; less = t .side .is-below }
+
+pub entry-of-cell : EntriesTellSides → (policy : ℕ) (d : Float) (sheet : List ℕ) (s : Structure) (es : List Entry) (e : Entry) (fs : List Entry) → T (fits binary64 d)
+    → cellStructure policy d sheet ≡ C.written s (es ++ e ∷ fs) → Written d e
+entry-of-cell claim policy d sheet s es e fs F h = entry-written d e (at-place es e fs (claim policy d sheet s (es ++ e ∷ fs) F h))
+
+pub entry-of-library : LibraryTellsSides → (policy : ℕ) (d : Float) (sheet : List ℕ) (front : FileHead) (before : List WrittenCell) (w : WrittenCell) (after : List WrittenCell) (es : List Entry) (e : Entry) (fs : List Entry)
+    → T (fits binary64 d) → libraryFile policy d sheet ≡ L.written (record { head = front; cells = before ++ w ∷ after }) → w .entries ≡ es ++ e ∷ fs → Written d e
+entry-of-library claim policy d sheet front before w after es e fs F h k =
+    entry-written d e (at-place es e fs (subst (All (EntryTellsSide d)) k (at-place before w after (claim policy d sheet (record { head = front; cells = before ++ w ∷ after }) F h))))
+
+-- the bits of the magnitude are those of |p − q × d|
+pub magnitude-bits : SameMagnitude → (d p : Float) (q : ℤ) → toBits binary64 (abs (difference d p q)) ≡ toBits binary64 (abs (sub binary64 p (mul binary64 (ofInt binary64 q) d)))
+unfolding errorOf
+magnitude-bits claim d p q = ap (toBits binary64) (claim d p q)
