@@ -1,8 +1,8 @@
 -- Deviations, which of them stands for an element, and the greatest error are as known by hand, computed; and no clause of what is claimed of the sign can be left out. Assumes nothing.
-use mathlib.Core.Path.{_≡_, refl, sym, ap, subst}
+use mathlib.Core.Path.{_≡_, refl, sym, ap, ap₂, _∙_, subst}
 use mathlib.Core.Bool.{not, true≢false}
 use mathlib.Core.Option.{Option, none, some}
-use mathlib.Core.List.{List, [], _∷_, _++_}
+use mathlib.Core.List.{List, [], _∷_, _++_, map}
 use Prim.Native.Nat.{ℕ, suc}
 use lib.Dec.{T, eqb}
 use lib.IntN.{ℤ, pos, _*ℤ_}
@@ -12,12 +12,13 @@ use lib.Ieee.Fits.{and-l}
 use Rattle.parsing.specs.All.{All, more}
 use Rattle.binary64.specs.Value.{abs, scaled, zero64}
 use Rattle.binary64.specs.Step.{oneStep}
+use Rattle.binary64.proofs.AbsLaws.{abs-abs}
 use Rattle.conversion.specs.declared.Deviation.{Deviation}
 use Rattle.conversion.specs.declared.Entry.{Entry}
 use Rattle.conversion.specs.Made.{Made, refused, made}
 use Rattle.conversion.specs.Convert.{Spot, difference, counts, convertPhysical, arrayEndpoint}
 use Rattle.conversion.specs.Entry.{entryOf, greatestFrom}
-use Rattle.conversion.specs.Side.{TellsSide, EntryTellsSide, errorOf, SameMagnitude}
+use Rattle.conversion.specs.Side.{TellsSide, EntryTellsSide, errorOf, SameMagnitude, unsigned, unsignedEntry, SignAside}
 use Rattle.stream.specs.Structure.{Structure}
 use Rattle.stream.specs.Library.{FileHead}
 use Rattle.cell.specs.Cell as C
@@ -176,3 +177,24 @@ entry-of-library claim policy d sheet front before w after es e fs F h k =
 pub magnitude-bits : SameMagnitude → (d p : Float) (q : ℤ) → toBits binary64 (abs (difference d p q)) ≡ toBits binary64 (abs (sub binary64 p (mul binary64 (ofInt binary64 q) d)))
 unfolding errorOf
 magnitude-bits claim d p q = ap (toBits binary64) (claim d p q)
+
+-- what the sign does not change is the same without the signs: an entry's place, its affected count and the bits of its magnitude
+module _ (claim : SignAside) (i kind : ℕ) (vs : List Deviation) where
+  aside : (g : Entry → ℕ) → ((e : Entry) → g (unsignedEntry e) ≡ g e) → map g (entryOf i kind vs) ≡ map g (entryOf i kind (map unsigned vs))
+  aside g h = sym (each-same (entryOf i kind vs)) ∙ ap (map g) (claim .entry i kind vs)
+    where
+      each-same : (es : List Entry) → map g (map unsignedEntry es) ≡ map g es
+      each-same [] = refl
+      each-same (e ∷ es) = ap₂ (λ (x : ℕ) (xs : List ℕ). x ∷ xs) (h e) (each-same es)
+
+  pub same-place : map (λ e. e .place) (entryOf i kind vs) ≡ map (λ e. e .place) (entryOf i kind (map unsigned vs))
+  same-place = aside (λ e. e .place) (λ e. refl)
+
+  pub same-count : map (λ e. e .count) (entryOf i kind vs) ≡ map (λ e. e .count) (entryOf i kind (map unsigned vs))
+  same-count = aside (λ e. e .count) (λ e. refl)
+
+  pub same-size : map (λ e. toBits binary64 (abs (e .error))) (entryOf i kind vs) ≡ map (λ e. toBits binary64 (abs (e .error))) (entryOf i kind (map unsigned vs))
+  same-size = aside (λ e. toBits binary64 (abs (e .error))) (λ e. ap (toBits binary64) (abs-abs (e .error)))
+
+pub same-greatest : SignAside → (x : Float) (es : List Entry) → toBits binary64 (greatestFrom x (map unsignedEntry es)) ≡ toBits binary64 (greatestFrom x es)
+same-greatest claim x es = ap (toBits binary64) (claim .greatest x es)
