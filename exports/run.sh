@@ -78,7 +78,11 @@ mkdir -p "$target"
 for language in "$@"; do
     hold example "$language" "$here/$language/stdout"
     hold sheet_test "$language" "$here/sheet_test.hex"
-    [ "$language" = c ] || continue
-    hold write_test c /dev/null
-    try_headers
+    case $language in
+    c)
+        hold write_test c /dev/null
+        try_headers
+        ;;
+    rust) hold report_test rust /dev/null ;;
+    esac
 done

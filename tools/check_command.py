@@ -260,11 +260,25 @@ def shown(folder):
 SIDES = (
     (42.5, 42, -0.5, "p 42.5, q 42, error 0.5 below"), (-42.5, -42, 0.5, "p -42.5, q -42, error 0.5 above"), (0.25, 0, -0.25, "p 0.25, q 0, error 0.25 below"),
     (-5e-324, 0, 5e-324, "p -5e-324, q 0, error 5e-324 above"), (1.7e308, 2, math.inf, "p 1.7e+308, q 2, error inf above"), (-1.7e308, -2, -math.inf, "p -1.7e+308, q -2, error inf below"),
+    (-0.5, 1, 1.5, "p -0.5, q 1, error 1.5 above"), (0.5, -1, -1.5, "p 0.5, q -1, error 1.5 below"),
+    (1e300, 1, -1e300, "p 1e+300, q 1, error 1e+300 below"), (-1e300, -1, 1e300, "p -1e+300, q -1, error 1e+300 above"),
 )
-# the same of entries that the writer never gives, and what is told
+# the same of entries that the writer never gives: the byte at fault before, and what is told after
+NOT, OLD = "is not q * d - p, which is", "; was this report made before errors had a sign?"
 NO_SIDES = (
-    (42.5, 45, 0.0, "error 0.0 is neither above nor below 0"), (42.5, 45, -0.0, "error -0.0 is neither above nor below 0"), (42.5, 45, math.nan, "error nan is neither above nor below 0"),
-    (0.25, 0, 0.25, "error 0.25 is not q * d - p, which is -0.25 where q is 0"),
+    (13, math.nan, 5, 1.0, "p nan is not finite"), (13, math.inf, 3, 1.0, "p inf is not finite"), (13, -math.inf, 0, math.nan, "p -inf is not finite"),
+    (25, 42.5, 45, 0.0, "error 0.0 is neither above nor below 0"), (25, 42.5, 45, -0.0, "error -0.0 is neither above nor below 0"), (25, 42.5, 45, math.nan, "error nan is neither above nor below 0"),
+    (25, 0.25, 0, 0.25, f"error 0.25 {NOT} -0.25 where q is 0{OLD}"), (25, 0.25, 0, 0.5, f"error 0.5 {NOT} -0.25 where q is 0"), (25, -0.25, 0, -0.25, f"error -0.25 {NOT} 0.25 where q is 0"),
+    (25, 0.0, 0, 5e-324, f"error 5e-324 {NOT} 0.0 where q is 0"), (25, -0.5, 1, -1.5, f"error -1.5 {NOT} at least 0.5 where q is 1"), (25, -0.5, 1, 0.25, f"error 0.25 {NOT} at least 0.5 where q is 1"),
+    (25, 0.5, 1, -1.5, f"error -1.5 {NOT} at least -0.5 where q is 1"), (25, 0.0, 1, -5e-324, f"error -5e-324 {NOT} at least 0.0 where q is 1"), (25, -1.7e308, 2, -math.inf, f"error -inf {NOT} at least 1.7e+308 where q is 2"),
+    (25, 0.5, -1, 1.5, f"error 1.5 {NOT} at most -0.5 where q is -1"), (25, -0.25, -1, 0.75, f"error 0.75 {NOT} at most 0.25 where q is -1"), (25, 1.7e308, -2, math.inf, f"error inf {NOT} at most -1.7e+308 where q is -2"),
+)
+# the greatest error of the program's lines, the errors of their entries, and what is told
+AMONG = "the largest magnitude among the entries is"
+NO_GREATEST = (
+    (-2.5, (2.5,), f"{AMONG} 2.5"), (-2.5, (-2.5,), f"{AMONG} 2.5"), (math.nan, (2.5,), f"{AMONG} 2.5"), (0.0, (2.5,), f"{AMONG} 2.5"), (math.nextafter(2.5, 3), (-2.5,), f"{AMONG} 2.5"),
+    (2.25, (2.25, -2.5), f"{AMONG} 2.5"), (2.5, (math.inf, 2.5), f"{AMONG} inf"), (-math.inf, (-math.inf,), f"{AMONG} inf"), (math.inf, (2.5, math.nan), f"{AMONG} 2.5"),
+    (2.5, (), "without an entry it is 0.0"), (-0.0, (), "without an entry it is 0.0"), (math.nan, (), "without an entry it is 0.0"),
 )
 
 
@@ -272,19 +286,40 @@ def entry_with(p, q, error):
     return bytes.fromhex(ROW_ENTRY)[:13] + struct.pack(">did", p, q, error)
 
 
+def lines_with(greatest, entries, stream=bytes.fromhex(ROW)):
+    """What the program prints of them."""
+    first = f"ok {len(stream)} {len(entries)} {struct.pack('>d', greatest).hex()}"
+    return "".join(f"{line}\n" for line in (first, stream.hex(), *(entry.hex() for entry in entries))).encode()
+
+
 def sides(folder):
-    """An error is shown by its magnitude and its side. What has no side is told with its place, after the records."""
-    records = folder.says("show a.str", 0).stdout.decode()
+    """An error is shown by its magnitude and its side. What the writer never gives is told with its place, after the records."""
+    records, whole = folder.says("show a.str", 0).stdout.decode(), bytes.fromhex(ROW_ENTRY)
     for p, q, error, words in SIDES:
-        entry, greatest = entry_with(p, q, error), struct.pack(">d", abs(error))
+        entry = entry_with(p, q, error)
         folder.says("show --report -", 0, output=f"{ROW_WORDS}{words}\n", given=entry)
         folder.says("show -", 0, output=f"accepted: 88 bytes, 1 report entry, greatest error {abs(error)!r}\n{records}{ROW_WORDS}{words}\n",
-                    given=f"ok 88 1 {greatest.hex()}\n{ROW}\n{entry.hex()}\n".encode())
-    for p, q, error, words in NO_SIDES:
-        entry = entry_with(p, q, error)
-        folder.says("show a.str --report -", 1, f"standard input, byte 58: report entry: {words}", records, bytes.fromhex(ROW_ENTRY) + entry)
-        folder.says("show -", 1, f"standard input, line 4, byte 25: report entry: {words}", f"accepted: 88 bytes, 2 report entries, greatest error 2.5\n{records}",
-                    f"ok 88 2 4004000000000000\n{ROW}\n{ROW_ENTRY}\n{entry.hex()}\n".encode())
+                    given=lines_with(abs(error), [entry]))
+    for byte, p, q, error, words in NO_SIDES:
+        entry, greatest = entry_with(p, q, error), max(2.5, abs(error))  # of a NaN 2.5
+        folder.says("show a.str --report -", 1, f"standard input, byte {33 + byte}: report entry: {words}\n", records, whole + entry)
+        folder.says("show -", 1, f"standard input, line 4, byte {byte}: report entry: {words}\n", f"accepted: 88 bytes, 2 report entries, greatest error {greatest!r}\n{records}",
+                    lines_with(greatest, [whole, entry]))
+
+
+def greatest_held(folder):
+    """The greatest error and the entries' lengths are looked at before anything is shown, of a library too."""
+    for greatest, errors, words in NO_GREATEST:
+        given = lines_with(greatest, [entry_with(42.5, 45, error) for error in errors])
+        folder.says("show -", 1, f"standard input, line 1: greatest error {greatest!r}; {words}\n", "", given)
+    folder.says("show -", 1, "standard input, line 3: a report entry has 33 bytes, not 32\n", "", lines_with(2.5, [bytes.fromhex(ROW_ENTRY)[:32]]))
+    folder.says(f"library a.library {CALL} -o b.gds --report b.report", 0)
+    file, report = folder.get("b.gds"), folder.get("b.report")
+    entries, errors = [report[:37], report[37:]], [abs(struct.unpack(">d", report[end - 8:end])[0]) for end in (37, 74)]
+    done = folder.says("show -", 0, given=lines_with(errors[1], entries, file))
+    folder.count.hold("a stored library's entries", done.stdout.decode().splitlines()[-2:], LIBRARY_LINES)
+    folder.says("show -", 1, f"line 1: greatest error {errors[0]!r}; {AMONG} {errors[1]!r}\n", "", lines_with(errors[0], entries, file))
+    folder.says("show -", 1, "line 4: a report entry has 37 bytes, not 33\n", "", lines_with(errors[1], [entries[0], entries[1][4:]], file))
 
 
 # a node's point, and the value that stands for it under nearest: of equal magnitudes the first, else the largest
@@ -489,7 +524,7 @@ def main(paths):
     with tempfile.TemporaryDirectory() as path:
         folder = Folder(path, count)
         prepared(folder)
-        for part in (faults, ways, there_and_back, sines, shown, sides, written_sides, large, ends, replaced, surveys):
+        for part in (faults, ways, there_and_back, sines, shown, sides, greatest_held, written_sides, large, ends, replaced, surveys):
             part(folder)
     progress_told(count)
     sides_shown(cases, count)

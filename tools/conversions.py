@@ -317,6 +317,9 @@ ENDPOINTS = (
     (1e308, 0, 1, 2, 1.7e308),
     (1e308, 0, -1, 2, -1.7e308),
     (1e308, 0, -1, 2, 1.7e308),
+    # infinite by the distance alone: database value times unit is finite
+    (1e308, 0, -1, 1, 1.7e308),
+    (1e308, 0, 1, 1, -1.7e308),
 )
 
 

@@ -441,7 +441,7 @@ def ends():
 
 def report():
     yield "equal errors: the first stays", cell(path([at(0.5, 1.5), at(-0.5, 2.5)]))
-    yield "a larger error replaces", cell(path([at(0.1, 1.2), at(2.3, 3.4), at(4.4, 5.5)]))
+    yield "a larger magnitude replaces", cell(path([at(0.1, 1.2), at(2.3, 3.4), at(4.4, 5.5)]))
     yield "width, begin, end", cell(path(width=real(1.1), begin=real(2.3), end=real(3.2)))
     yield "begin is the worst", cell(path(width=real(1.1), begin=real(2.5), end=real(3.2)))
     yield "end is the worst", cell(path(width=real(1.1), begin=real(2.3), end=real(-3.5)))
@@ -506,6 +506,8 @@ def array_sides():
     yield "column endpoint 1 below, row endpoint 1.25 above", cell(array(4, 5, column=at(10.25, 0.0), row=at(0.0, 10.75)))
     yield "floor, and an endpoint drifts: it lies above", cell(array(3, 1, column=at(5 - 2.0**-50, 0.0), row=GONE), policy=1)
     yield "ceiling, and an endpoint drifts: it lies below", cell(array(3, 1, column=at(1 + 2.0**-52, 0.0), row=GONE), policy=2)
+    # the spacing goes to 0: q * d is -1.2e308 and p 1.20002e308, both finite
+    yield "an endpoint is infinitely far below by its distance alone", cell(array(4801, 1, origin=at(-1.2e308, 0), column=at(4.999e304, 0.0), row=GONE), d=1e305)
 
 
 # ---- arrays, the buffers, mixed cells

@@ -16,7 +16,7 @@
  * The two for libraries return 0 or a number from 1 to 25, and have a fifth answer, the cell that is refused:
  *     accepted: *cell = 0 and *block = 0, *length and *entries of the file and the report, *greatest error (0 if none)
  *     refused:  *cell, from 0, and *block in its sheet, or RAVENVANITY_NO_CELL and 0 outside a cell; the others are 0
- * An entry's error has a sign, the greatest error has none: it is the largest magnitude of an entry's.
+ * An entry's error has a sign, the greatest error has none: it is the largest magnitude among the entries' errors.
  */
 #ifndef RAVENVANITY_H
 #define RAVENVANITY_H

@@ -148,7 +148,8 @@ static inline const char *ravenvanity_axis_name(uint8_t axis) {
     }
 }
 
-/* On which side of the physical value the database value lies. */
+/* On which side of the physical value the database value lies: "above" where the error is above 0, "below" where it is
+ * below 0, and "unknown side" where it is 0 or a NaN, which the proved writer never gives. */
 static inline const char *ravenvanity_side(const struct ravenvanity_entry *entry) {
     return entry->error > 0 ? "above" : entry->error < 0 ? "below" : "unknown side";
 }

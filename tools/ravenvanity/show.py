@@ -5,7 +5,9 @@ UNITS, structures, ENDLIB. Each record gets a line: the byte where it starts, it
 reals are written as exact decimals, long ones of UNITS as the shortest decimal of the double. Zero bytes after ENDLIB are
 no damage: a line says how many. The lines that the program `structure` prints, and a stored library's, are read too.
 Of an entry's error the magnitude is told, and on which side of the physical value the database value lies: above or below.
+Entries, and a greatest error, that this writer never gives are turned back with their place.
 """
+import math
 import re
 import struct
 from fractions import Fraction
@@ -43,6 +45,7 @@ FIELDS = ("point", "width", "begin extension", "end extension", "origin", "turne
           "column endpoint", "row endpoint")
 AXES = ("x", "y", "")
 ENTRY, LIBRARY_ENTRY = 33, 37
+NO_SIGN = "; was this report made before errors had a sign?"
 
 
 class Damage(Unreadable):
@@ -247,17 +250,22 @@ class Walk:
 
 
 def impossible(kind, field, axis, p, q, error):
-    """(byte of an entry, what this writer never has there), or None. Where q is 0, the error q * d - p needs no d."""
+    """(byte of an entry, what this writer never has there), or None."""
     if kind not in KINDS:
         return 4, f"element kind {kind} is unknown"
     if field >= len(FIELDS):
         return 5, f"field {field} is unknown"
     if axis >= len(AXES):
         return 6, f"axis {axis} is unknown"
+    if not math.isfinite(p):
+        return 13, f"p {p!r} is not finite"
     if not (error > 0 or error < 0):
         return 25, f"error {error!r} is neither above nor below 0"
-    if q == 0 and error != -p:
-        return 25, f"error {error!r} is not q * d - p, which is {-p!r} where q is 0"
+    # what no d above 0 gives: q * d lies on q's side of 0, so q * d - p is -p or lies on that side of -p
+    if q > 0 and error < -p or q < 0 and error > -p or q == 0 and error != -p:
+        bound = "at least " if q > 0 else "at most " if q < 0 else ""
+        hint = NO_SIGN if q == 0 and error == abs(p) else ""
+        return 25, f"error {error!r} is not q * d - p, which is {bound}{0 - p!r} where q is {q}{hint}"
     return None
 
 
@@ -310,11 +318,26 @@ def stream_lines(stream, say):
     return is_library(stream), walk.structures
 
 
+def check_sizes(found, size):
+    """Entries that have lines of their own, from the third on."""
+    for line, entry in enumerate(found, 3):
+        if len(entry) != size:
+            raise Damage(f"line {line}: a report entry has {size} bytes, not {len(entry)}")
+
+
+def checked_greatest(bits, found):
+    """The greatest error: bit for bit the largest magnitude among the entries' errors, each an entry's last 8 bytes."""
+    greatest, *errors = [struct.unpack(">d", data[-8:])[0] for data in (bits, *found)]
+    # a NaN has no magnitude, and is turned back with its entry
+    largest = max((abs(error) for error in errors if not math.isnan(error)), default=0.0)
+    if bits != struct.pack(">d", largest):
+        wanted = f"the largest magnitude among the entries is {largest!r}" if found else f"without an entry it is {largest!r}"
+        raise Damage(f"line 1: greatest error {greatest!r}; {wanted}")
+    return greatest
+
+
 def line_entry_words(line, data, shown):
     """An entry in words that has a line of its own, which a fault names."""
-    size = LIBRARY_ENTRY if shown[0] else ENTRY
-    if len(data) != size:
-        raise Damage(f"line {line}: a report entry has {size} bytes, not {len(data)}")
     try:
         return any_entry_words(data, 0, shown)
     except Damage as damage:
@@ -322,12 +345,14 @@ def line_entry_words(line, data, shown):
 
 
 def accepted(lines, say):
+    """Nothing is said before the first line is held to the others."""
     _, length, count, error = lines[0].split(" ")
     stream = unhexed(lines[1], "line 2")
     rest = [unhexed(line, f"line {k}") for k, line in enumerate(lines[2:], 3)]
     if str(len(stream)) != length or str(len(rest)) != count:
         raise Damage(f"line 1 says {length} bytes and {count} entries; there are {len(stream)} and {len(rest)}")
-    greatest = struct.unpack(">d", unhexed(error, "line 1"))[0]
+    check_sizes(rest, LIBRARY_ENTRY if is_library(stream) else ENTRY)
+    greatest = checked_greatest(unhexed(error, "line 1"), rest)
     say(f"accepted: {many(len(stream), 'byte')}, {many(len(rest), 'report entry').replace('entrys', 'entries')}, greatest error {greatest!r}")
     shown = stream_lines(stream, say)
     for words in [line_entry_words(k, entry, shown) for k, entry in enumerate(rest, 3)]:

@@ -1,4 +1,4 @@
--- Examples at single doubles; whole numbers and tests; the value of a double, its parts, its pattern and its size; rounding; steps; `mul_add`; order; doubles that are whole numbers; a whole number times a double, and back.
+-- Examples at single doubles; whole numbers and tests; the value of a double, its parts, its pattern and its size; rounding; steps; `mul_add`; order; doubles that are whole numbers; a whole number times a double, and back; the sign of a difference.
 pub mod Examples
 pub mod Tests
 pub mod Powers

@@ -1,6 +1,6 @@
--- A finite double as a whole number of the format's smallest values, and the whole numbers near it. Assumes nothing.
+-- A double without its sign; a finite double as a whole number of the format's smallest values, and the whole numbers near it. Assumes nothing.
 -- `scaled x` is x * 2 ^ 1074. `floorOf`, `ceilOf` and `roundAway` are x rounded down, up, and to the nearest with halves away from zero, as
--- `f64::floor`, `f64::ceil` and `f64::round` have it (IEEE 754, 5.9). Of a NaN or an infinity each is 0: who cares for those asks `finite` first.
+-- `f64::floor`, `f64::ceil` and `f64::round` have it (IEEE 754, 5.9). Of a NaN or an infinity each of these four is 0: who cares for those asks `finite` first.
 use mathlib.Core.Bool.{Bool, false, cond}
 use Prim.Native.Nat.{ℕ, _+_, _-_, _*_, _/_, _^_}
 use lib.Dec.{eqb}

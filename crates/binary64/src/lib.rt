@@ -1,4 +1,4 @@
-// Doubles worked out from their bits: patterns, finite and positive, rounding to whole numbers, one step.
+// Doubles worked out from their bits: patterns, finite and positive, the magnitude, rounding to whole numbers, one step.
 // Every function is total on what raw input can reach; what has a `requires` works on digits and powers, below those.
 ghost use mathlib.Core.Path.{_≡_};
 ghost use mathlib.Core.Bool.{_&&_, cond};

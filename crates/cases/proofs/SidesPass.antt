@@ -1,10 +1,10 @@
 -- Deviations, which of them stands for an element, and the greatest error are as known by hand, computed; and no clause of what is claimed of the sign can be left out. Assumes nothing.
 use mathlib.Core.Path.{_≡_, refl, sym, ap, ap₂, _∙_, subst}
 use mathlib.Core.Bool.{not, true≢false}
-use mathlib.Core.Option.{Option, none, some}
 use mathlib.Core.List.{List, [], _∷_, _++_, map}
 use Prim.Native.Nat.{ℕ, suc}
 use lib.Dec.{T, eqb}
+use lib.ListN.{take}
 use lib.IntN.{ℤ, pos, _*ℤ_}
 use lib.Signed.{_<ℤ_}
 use lib.Ieee.{Float, binary64, fits, ofBits, toBits, sub, mul, div, lt, ofInt}
@@ -17,8 +17,8 @@ use Rattle.conversion.specs.declared.Deviation.{Deviation}
 use Rattle.conversion.specs.declared.Entry.{Entry}
 use Rattle.conversion.specs.Made.{Made, refused, made}
 use Rattle.conversion.specs.Convert.{Spot, difference, counts, convertPhysical, arrayEndpoint}
-use Rattle.conversion.specs.Entry.{entryOf, greatestFrom}
-use Rattle.conversion.specs.Side.{TellsSide, EntryTellsSide, errorOf, SameMagnitude, unsigned, unsignedEntry, SignAside}
+use Rattle.conversion.specs.Entry.{entryOf, entryBytes, greatestFrom}
+use Rattle.conversion.specs.Side.{TellsSide, EntryTellsSide, errorOf, rustEntryOf, rustGreatest, SameMagnitude, unsigned, unsignedEntry, SignAside}
 use Rattle.stream.specs.Structure.{Structure}
 use Rattle.stream.specs.Library.{FileHead}
 use Rattle.cell.specs.Cell as C
@@ -27,7 +27,7 @@ use Rattle.cell.specs.Sides.{EntriesTellSides}
 use Rattle.library.specs.Library as L
 use Rattle.library.specs.Library.{WrittenCell, libraryFile}
 use Rattle.library.specs.Sides.{LibraryTellsSides}
-use Rattle.cases.specs.Doubles.{minus, half, one, three}
+use Rattle.cases.specs.Doubles.{minus, half, one, three, infinity, i32MaxAndHalf}
 use Rattle.cases.specs.Sides.{quarter, twoAndQuarter, twoAndThreeQuarters, Row, rows, Corner, corners, Choice, choices, Greatest, greatests}
 use Rattle.cases.proofs.Open.{opened}
 
@@ -37,17 +37,15 @@ double b = ofBits binary64 b
 abbrev somewhere : Spot
 somewhere = record { field = 0; axis = 0; place = 0 }
 
--- the error of the one deviation, if there is one
-abbrev errorIn : List Deviation → Option ℕ
-errorIn [] = none
-errorIn (v ∷ []) = some (toBits binary64 (v .error))
-errorIn (v ∷ w ∷ vs) = none
+-- the errors of deviations, by their bits
+abbrev errorsIn : List Deviation → List ℕ
+errorsIn vs = map (λ v. toBits binary64 (v .error)) vs
 
 -- ---- single deviations
 
 abbrev said : Row → Made ℤ → List Row
 said r (refused x) = []
-said r (made q vs) = record { policy = r .policy; unit = r .unit; physical = r .physical; database = q; error = errorIn vs } ∷ []
+said r (made q vs) = record { policy = r .policy; unit = r .unit; physical = r .physical; database = q; errors = errorsIn vs } ∷ []
 
 abbrev found : List Row → List (List Row)
 found [] = []
@@ -61,17 +59,15 @@ pub sides-pass : found rows ≡ each rows
 unfolding opened rows
 sides-pass = refl
 
-abbrev cornerError : Made ℤ → Option ℕ
-cornerError (refused x) = none
-cornerError (made q vs) = errorIn vs
+abbrev cornerSaid : Corner → Made ℤ → List Corner
+cornerSaid c (refused x) = []
+cornerSaid c (made q vs) = record { unit = c .unit; origin = c .origin; step = c .step; count = c .count; physical = c .physical; database = q; errors = errorsIn vs } ∷ []
 
-abbrev cornersFound : List Corner → List Corner
+abbrev cornersFound : List Corner → List (List Corner)
 cornersFound [] = []
-cornersFound (c ∷ cs) =
-    record { origin = c .origin; step = c .step; count = c .count; physical = c .physical; error = cornerError (arrayEndpoint (double one) somewhere (c .origin) (c .step) (c .count) (double (c .physical))) }
-    ∷ cornersFound cs
+cornersFound (c ∷ cs) = cornerSaid c (arrayEndpoint (double (c .unit)) somewhere (c .origin) (c .step) (c .count) (double (c .physical))) ∷ cornersFound cs
 
-pub corners-pass : cornersFound corners ≡ corners
+pub corners-pass : cornersFound corners ≡ each corners
 unfolding opened corners
 corners-pass = refl
 
@@ -127,15 +123,24 @@ pub unsaid-below : TellsSide (double one) (double twoAndQuarter) (pos 2) zero64 
 unfolding opened
 unsaid-below t = t .is-below (record { lt = tt })
 
--- nor of `EntryTellsSide`: an entry on the right side with another error than its own; and one on the grid, whose error is none
-abbrev deviating : ℕ → ℕ → Entry
-deviating p e = record { index = 0; kind = 4; field = 0; axis = 0; place = 0; count = 1; physical = double p; database = pos 3; error = double e }
+-- Nor of `EntryTellsSide`: p infinite, and q beyond 32 bits, each with the error that they have; an entry on the right side with another error than its own; and one on the grid, whose error is none.
+abbrev deviating : ℕ → ℤ → ℕ → Entry
+deviating p q e = record { index = 0; kind = 4; field = 0; axis = 0; place = 0; count = 1; physical = double p; database = q; error = double e }
 
-pub other-error : EntryTellsSide (double one) (deviating twoAndThreeQuarters half) → ⊥
+pub no-physical : EntryTellsSide (double one) (deviating (minus infinity) (pos 3) infinity) → ⊥
+unfolding opened
+no-physical t = t .physical
+
+-- 2^31 for 2147483647.5
+pub no-database : EntryTellsSide (double one) (deviating i32MaxAndHalf (pos 2147483648) half) → ⊥
+unfolding opened
+no-database t = t .database
+
+pub other-error : EntryTellsSide (double one) (deviating twoAndThreeQuarters (pos 3) half) → ⊥
 unfolding opened
 other-error t = true≢false (ap (λ (x : Float). eqb (toBits binary64 x) half) (t .error))
 
-pub no-error : EntryTellsSide (double one) (deviating three 0) → ⊥
+pub no-error : EntryTellsSide (double one) (deviating three (pos 3) 0) → ⊥
 unfolding opened
 no-error t = t .counted
 
@@ -178,23 +183,34 @@ pub magnitude-bits : SameMagnitude → (d p : Float) (q : ℤ) → toBits binary
 unfolding errorOf
 magnitude-bits claim d p q = ap (toBits binary64) (claim d p q)
 
--- what the sign does not change is the same without the signs: an entry's place, its affected count and the bits of its magnitude
+-- Without its sign an entry is the Rust's in each field, and so is the greatest error.
 module _ (claim : SignAside) (i kind : ℕ) (vs : List Deviation) where
-  aside : (g : Entry → ℕ) → ((e : Entry) → g (unsignedEntry e) ≡ g e) → map g (entryOf i kind vs) ≡ map g (entryOf i kind (map unsigned vs))
-  aside g h = sym (each-same (entryOf i kind vs)) ∙ ap (map g) (claim .entry i kind vs)
+  aside : {A : Type 0} (g : Entry → A) → ((e : Entry) → g (unsignedEntry e) ≡ g e) → map g (entryOf i kind vs) ≡ map g (rustEntryOf i kind (map unsigned vs))
+  aside {A} g h = sym (each-same (entryOf i kind vs)) ∙ ap (map g) (claim .entry i kind vs)
     where
       each-same : (es : List Entry) → map g (map unsignedEntry es) ≡ map g es
       each-same [] = refl
-      each-same (e ∷ es) = ap₂ (λ (x : ℕ) (xs : List ℕ). x ∷ xs) (h e) (each-same es)
+      each-same (e ∷ es) = ap₂ (λ (x : A) (xs : List A). x ∷ xs) (h e) (each-same es)
 
-  pub same-place : map (λ e. e .place) (entryOf i kind vs) ≡ map (λ e. e .place) (entryOf i kind (map unsigned vs))
-  same-place = aside (λ e. e .place) (λ e. refl)
+  -- all but the error by its first 25 bytes; the error by its magnitude's bits
+  pub same-front : map (λ e. take 25 (entryBytes e)) (entryOf i kind vs) ≡ map (λ e. take 25 (entryBytes e)) (rustEntryOf i kind (map unsigned vs))
+  unfolding entryBytes
+  same-front = aside (λ e. take 25 (entryBytes e)) (λ e. refl)
 
-  pub same-count : map (λ e. e .count) (entryOf i kind vs) ≡ map (λ e. e .count) (entryOf i kind (map unsigned vs))
-  same-count = aside (λ e. e .count) (λ e. refl)
-
-  pub same-size : map (λ e. toBits binary64 (abs (e .error))) (entryOf i kind vs) ≡ map (λ e. toBits binary64 (abs (e .error))) (entryOf i kind (map unsigned vs))
+  pub same-size : map (λ e. toBits binary64 (abs (e .error))) (entryOf i kind vs) ≡ map (λ e. toBits binary64 (abs (e .error))) (rustEntryOf i kind (map unsigned vs))
   same-size = aside (λ e. toBits binary64 (abs (e .error))) (λ e. ap (toBits binary64) (abs-abs (e .error)))
 
-pub same-greatest : SignAside → (x : Float) (es : List Entry) → toBits binary64 (greatestFrom x (map unsignedEntry es)) ≡ toBits binary64 (greatestFrom x es)
+pub same-greatest : SignAside → (x : Float) (es : List Entry) → toBits binary64 (greatestFrom x es) ≡ toBits binary64 (rustGreatest x (map unsignedEntry es))
 same-greatest claim x es = ap (toBits binary64) (claim .greatest x es)
+
+-- the Rust's rules, by hand: 0.25 and then 0.5, which replaces; 0.5 and then 0.25; and equal ones, where the first stays
+abbrev rustChosen : List ℕ → List ℕ
+rustChosen es = map (λ e. e .place) (rustEntryOf 0 4 (deviationsFrom 0 es))
+
+pub rust-choices : rustChosen (quarter ∷ half ∷ []) ++ rustChosen (half ∷ quarter ∷ []) ++ rustChosen (half ∷ half ∷ []) ≡ 1 ∷ 0 ∷ 0 ∷ []
+unfolding opened
+rust-choices = refl
+
+pub rust-greatest : toBits binary64 (rustGreatest zero64 (entriesWith (quarter ∷ half ∷ quarter ∷ []))) ≡ half
+unfolding opened
+rust-greatest = refl

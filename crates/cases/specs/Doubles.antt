@@ -1,4 +1,4 @@
--- Doubles by their bits, and the policies by their numbers, for the rows of Bounds and of Survey. Assumes nothing.
+-- Doubles by their bits, and the policies by their numbers, for the rows of Bounds, of Survey and of Sides. Assumes nothing.
 use Prim.Native.Nat.{ℕ, _+_, _-_, _^_}
 use Rattle.binary64.specs.Step.{orderedBits}
 use Rattle.cases.specs.Neighbours.{bitsAt}

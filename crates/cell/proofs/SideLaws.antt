@@ -3,8 +3,9 @@ use mathlib.Core.Path.{refl, subst}
 use mathlib.Core.Bool.{Bool, true, false}
 use mathlib.Core.Option.{Option, none, some}
 use mathlib.Core.List.{List, [], _∷_, _++_}
-use Prim.Native.Nat.{ℕ, suc}
-use lib.Dec.{T}
+use Prim.Native.Nat.{ℕ, suc, _*_}
+use lib.Dec.{T, leb}
+use lib.ListN.{length}
 use lib.Ieee.{Float, binary64, fits}
 use lib.Ieee.Scale.{finite}
 use lib.Ieee.Positive.{positive-finite}
@@ -14,7 +15,7 @@ use Rattle.conversion.specs.declared.GdsRoundingPolicy.{GdsRoundingPolicy}
 use Rattle.conversion.specs.declared.Deviation.{Deviation}
 use Rattle.conversion.specs.declared.Entry.{Entry}
 use Rattle.conversion.specs.Made.{Made, refused, made}
-use Rattle.conversion.specs.Entry.{entryOf}
+use Rattle.conversion.specs.Entry.{entryOf, entryLength}
 use Rattle.conversion.specs.Side.{EntryTellsSide}
 use Rattle.conversion.proofs.SideLaws.{AllTold, entry-tells}
 use Rattle.sheet.specs.Element as S
@@ -26,13 +27,13 @@ use Rattle.cell.specs.Stamps.{stampsFit}
 use Rattle.cell.specs.Names.{isName}
 use Rattle.cell.specs.Write.{writeElement}
 use Rattle.cell.specs.Call.{checkedCall}
-use Rattle.cell.specs.Cell.{Result, stopped, written, check, writeOne, writeBlock, writeBlocks, structureWith, writeHeaded, writeSheet, afterCaller, cellStructure}
+use Rattle.cell.specs.Cell.{Result, stopped, written, check, writeOne, writeBlock, writeBlocks, structureWith, writeHeaded, writeSheet, afterCaller, cellStructure, structureBytes, fitting, writeCell}
 use Rattle.cell.specs.Sides.{EntriesTellSides}
 use Rattle.cell.proofs.CallLaws.{Calling, unnamed, noUnit, tooLong, passes, calling}
 use Rattle.cell.proofs.StepLaws.{Lawful, element-lawful}
 
 -- each entry of what is written, where nothing is said of a refusal
-abbrev Reports : (Entry → Type 0) → {A : Type 0} → Result A → Type 0
+abbrev pub Reports : (Entry → Type 0) → {A : Type 0} → Result A → Type 0
 Reports P (stopped r k) = T true
 Reports P (written a es) = All P es
 
@@ -85,6 +86,16 @@ cell-reports policy d sheet F = go (checkedCall policy d sheet) (calling policy 
     go m (noUnit rounding e never) = tt
     go m (tooLong rounding e u l) = tt
     go m (passes at) = sheet-reports (at .rounding) d F (positive-finite d (at .unit)) sheet
+
+-- what is written where the buffers hold it is the same
+fitting-reports : (P : Entry → Type 0) (out report : ℕ) (x : Result D.Structure) → Reports P x → Reports P (fitting out report x)
+unfolding fitting
+fitting-reports P out report (stopped r k) h = tt
+fitting-reports P out report (written s es) h = check-reports P (leb (length (structureBytes s)) out) _ _ (check-reports P (leb (entryLength * length es) report) _ _ h)
+
+pub written-reports : (policy : ℕ) (d : Float) (sheet : List ℕ) (out report : ℕ) → T (fits binary64 d) → Reports (EntryTellsSide d) (writeCell policy d sheet out report)
+unfolding writeCell
+written-reports policy d sheet out report F = fitting-reports (EntryTellsSide d) out report (cellStructure policy d sheet) (cell-reports policy d sheet F)
 
 pub entries-tell-sides : EntriesTellSides
 entries-tell-sides policy d sheet s es F e = subst (Reports (EntryTellsSide d)) e (cell-reports policy d sheet F)

@@ -1,7 +1,7 @@
--- What the sign of a deviation says, and that nothing but the sign was added: the statements of specs/Side. Assumes nothing.
-use mathlib.Core.Path.{_≡_, refl, sym, ap, ap₂, _∙_, subst}
+-- What the sign of a deviation says, and that the report is the Rust's but for it: the statements of specs/Side. Assumes nothing.
+use mathlib.Core.Path.{_≡_, refl, sym, ap, _∙_, subst}
 use mathlib.Core.Logic.{inl, inr}
-use mathlib.Core.Bool.{Bool, true, false, not, cond}
+use mathlib.Core.Bool.{Bool, true, false, not, _&&_, cond}
 use mathlib.Core.List.{List, [], _∷_, _++_, map}
 use Prim.Native.Nat.{ℕ, _*_, _<_}
 use native.Mathlib.Omega.{arith}
@@ -14,13 +14,13 @@ use lib.Ieee.Scale.{finite}
 use Rattle.binary64.specs.Value.{scaled, abs, zero64}
 use Rattle.binary64.specs.Step.{oneStep}
 use Rattle.binary64.proofs.Compare.{less→le}
-use Rattle.binary64.proofs.AbsLaws.{abs-abs, abs-sub}
+use Rattle.binary64.proofs.AbsLaws.{abs-sub}
 use Rattle.binary64.proofs.Side.{Side, times-side}
 use Rattle.conversion.specs.declared.Deviation.{Deviation}
 use Rattle.conversion.specs.declared.Entry.{Entry}
 use Rattle.conversion.specs.Convert.{Spot, inRange, difference, counts, deviations}
 use Rattle.conversion.specs.Entry.{firstEntry, takes, takesAll, entryOf, greatestFrom}
-use Rattle.conversion.specs.Side.{Above, Below, TellsSide, CountedTellsSide, EntryTellsSide, errorOf, SameMagnitude, unsigned, unsignedEntry, SignAside}
+use Rattle.conversion.specs.Side.{Above, Below, TellsSide, CountedTellsSide, EntryTellsSide, errorOf, rustDeviations, rustTakes, rustTakesAll, rustEntryOf, rustGreatest, SameMagnitude, unsigned, unsignedEntry, SignAside}
 use Rattle.conversion.proofs.FoldLaws.{larger, smaller}
 use Rattle.conversion.proofs.WholeLaws.{small}
 
@@ -102,41 +102,54 @@ entry-tells d D f i kind v vs h = its (takesAll (firstEntry i kind v) vs) (taken
   where
     its : (e : Entry) → Told d (e .physical) (e .database) (e .error) → EntryTellsSide d e
     its e k = record {
+      physical = k .physical;
+      database = k .ranged;
       error = k .error;
       counted = k .counted;
       side = subst (TellsSide d (e .physical) (e .database)) (sym (k .error)) (counted-tells-side d (e .physical) (e .database) D f (k .fitting) (k .physical) (k .ranged) (k .counted));
     }
 
--- ---- nothing but the sign
+-- ---- the Rust's report but for the sign
 
 pub same-magnitude : SameMagnitude
 unfolding difference errorOf
 same-magnitude d p q = abs-sub binary64 (mul binary64 (ofInt binary64 q) d) p
 
-takes-unsigned : (e : Entry) (v : Deviation) → unsignedEntry (takes e v) ≡ takes (unsignedEntry e) (unsigned v)
+deviation-unsigned : (d : Float) (at : Spot) (p : Float) (q : ℤ) → map unsigned (deviations d at p q) ≡ rustDeviations d at p q
+unfolding deviations rustDeviations counts
+deviation-unsigned d at p q = go (lt zero64 (abs (difference d p q)) && far) ∙ ap (λ (x : Float). cond (lt zero64 x && far) (one x) []) (same-magnitude d p q)
+  where
+    far : Bool
+    far = not (oneStep (div binary64 p d) (ofInt binary64 q))
+
+    one : Float → List Deviation
+    one x = record { field = at .field; axis = at .axis; place = at .place; physical = p; database = q; error = x } ∷ []
+
+    go : (t : Bool) → map unsigned (cond t (one (difference d p q)) []) ≡ cond t (one (abs (difference d p q))) []
+    go true = refl
+    go false = refl
+
+takes-unsigned : (e : Entry) (v : Deviation) → unsignedEntry (takes e v) ≡ rustTakes (unsignedEntry e) (unsigned v)
+unfolding rustTakes
 takes-unsigned e v = go (lt (abs (e .error)) (abs (v .error))) refl
   where
-    same : lt (abs (abs (e .error))) (abs (abs (v .error))) ≡ lt (abs (e .error)) (abs (v .error))
-    same = ap₂ lt (abs-abs (e .error)) (abs-abs (v .error))
+    go : (t : Bool) → lt (abs (e .error)) (abs (v .error)) ≡ t → unsignedEntry (takes e v) ≡ rustTakes (unsignedEntry e) (unsigned v)
+    go true h = ap unsignedEntry (sym (larger e v (v .database) refl h)) ∙ rw h
+    go false h = ap unsignedEntry (sym (smaller e v h)) ∙ rw h
 
-    go : (t : Bool) → lt (abs (e .error)) (abs (v .error)) ≡ t → unsignedEntry (takes e v) ≡ takes (unsignedEntry e) (unsigned v)
-    go true h = ap unsignedEntry (sym (larger e v (v .database) refl h)) ∙ larger (unsignedEntry e) (unsigned v) (v .database) refl (same ∙ h)
-    go false h = ap unsignedEntry (sym (smaller e v h)) ∙ smaller (unsignedEntry e) (unsigned v) (same ∙ h)
-
-all-unsigned : (e : Entry) (vs : List Deviation) → unsignedEntry (takesAll e vs) ≡ takesAll (unsignedEntry e) (map unsigned vs)
+all-unsigned : (e : Entry) (vs : List Deviation) → unsignedEntry (takesAll e vs) ≡ rustTakesAll (unsignedEntry e) (map unsigned vs)
 all-unsigned e [] = refl
-all-unsigned e (v ∷ vs) = all-unsigned (takes e v) vs ∙ ap (λ (x : Entry). takesAll x (map unsigned vs)) (takes-unsigned e v)
+all-unsigned e (v ∷ vs) = all-unsigned (takes e v) vs ∙ ap (λ (x : Entry). rustTakesAll x (map unsigned vs)) (takes-unsigned e v)
 
-entry-unsigned : (i kind : ℕ) (vs : List Deviation) → map unsignedEntry (entryOf i kind vs) ≡ entryOf i kind (map unsigned vs)
-unfolding entryOf firstEntry
+entry-unsigned : (i kind : ℕ) (vs : List Deviation) → map unsignedEntry (entryOf i kind vs) ≡ rustEntryOf i kind (map unsigned vs)
+unfolding entryOf rustEntryOf firstEntry
 entry-unsigned i kind [] = refl
 entry-unsigned i kind (v ∷ vs) = ap (λ (x : Entry). x ∷ []) (all-unsigned (firstEntry i kind v) vs)
 
-greatest-unsigned : (x : Float) (es : List Entry) → greatestFrom x (map unsignedEntry es) ≡ greatestFrom x es
-unfolding greatestFrom
+greatest-unsigned : (x : Float) (es : List Entry) → greatestFrom x es ≡ rustGreatest x (map unsignedEntry es)
+unfolding greatestFrom rustGreatest
 greatest-unsigned x [] = refl
-greatest-unsigned x (e ∷ es) =
-    ap (λ (y : Float). greatestFrom (cond (lt x y) y x) (map unsignedEntry es)) (abs-abs (e .error)) ∙ greatest-unsigned (cond (lt x (abs (e .error))) (abs (e .error)) x) es
+greatest-unsigned x (e ∷ es) = greatest-unsigned (cond (lt x (abs (e .error))) (abs (e .error)) x) es
 
 pub sign-aside : SignAside
-sign-aside = record { entry = entry-unsigned; greatest = greatest-unsigned }
+sign-aside = record { deviation = deviation-unsigned; entry = entry-unsigned; greatest = greatest-unsigned }

@@ -63,7 +63,7 @@ databaseValue policy d p = do
 unfoldable pub difference : Float → Float → ℤ → Float
 difference d p q = sub binary64 (mul binary64 (ofInt binary64 q) d) p
 
--- "It counts where it is above 0 and s and q differ by more than one step, q taken as a double with 0 positive." (document 01): above 0 is its magnitude
+-- "It counts where it is above 0 and s and q differ by more than one step, q taken as a double with 0 positive." (document 01); "above 0" is asked of its magnitude
 unfoldable pub counts : Float → Float → ℤ → Bool
 counts d p q = lt zero64 (abs (difference d p q)) && not (oneStep (div binary64 p d) (ofInt binary64 q))
 

@@ -1,4 +1,4 @@
--- Laws of a library's result, of its answer, of the order of its refusals, and of what its file draws.
+-- Laws of a library's result, of its answer, of the order of its refusals, of what its file draws, and of its entries' sides.
 pub mod ResultLaws
 pub mod AnswerLaws
 pub mod CellsLaws

@@ -1,4 +1,4 @@
--- Writing a library: its cells in turn, the file, the answer in numbers, the order of the refusals, and what the file draws.
+-- Writing a library: its cells in turn, the file, the answer in numbers, the order of the refusals, what the file draws, and what its report tells.
 pub mod Library
 pub mod Answer
 pub mod Order

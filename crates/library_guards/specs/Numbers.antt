@@ -2,7 +2,7 @@
 -- from 0, and stand by it, then by index"; "24 user unit not finite or not positive, or a real of UNITS not finite or not encodable"). Assumes nothing.
 use mathlib.Core.Option.{Option, none, some}
 use mathlib.Core.List.{List, [], _∷_, _++_}
-use Prim.Native.Nat.{ℕ}
+use Prim.Native.Nat.{ℕ, _+_}
 use lib.IntN.{pos, negsuc}
 use Rattle.conversion.specs.declared.Entry.{Entry}
 use Rattle.stream.specs.Structure.{Structure}
@@ -18,19 +18,19 @@ bare = record { stamps = []; name = []; elements = [] }
 abbrev pub cell : List Entry → WrittenCell
 cell es = record { structure = bare; entries = es }
 
--- 2.5 as 3 in a node; and -2.5 as -3 in an array, with all places of the entry in use
+-- 2.5 as 3 in a node, above; and -2.5 as -3 in an array, below, with all places of the entry in use
 abbrev first : Entry
 first = record { index = 0; kind = 4; field = 0; axis = 0; place = 0; count = 1; physical = bits 0x4004000000000000; database = pos 3; error = bits 0x3fe0000000000000 }
 
 abbrev other : Entry
-other = record { index = 258; kind = 5; field = 7; axis = 1; place = 515; count = 4; physical = bits 0xc004000000000000; database = negsuc 2; error = bits 0x3fe0000000000000 }
+other = record { index = 258; kind = 5; field = 7; axis = 1; place = 515; count = 4; physical = bits 0xc004000000000000; database = negsuc 2; error = bits 0xbfe0000000000000 }
 
 -- and their 33 bytes
 abbrev firstBytes : List ℕ
 firstBytes = x 33 0x000000000400000000000000014004000000000000000000033fe0000000000000
 
 abbrev otherBytes : List ℕ
-otherBytes = x 33 0x00000102050701020300000004c004000000000000fffffffd3fe0000000000000
+otherBytes = x 33 0x00000102050701020300000004c004000000000000fffffffdbfe0000000000000
 
 -- the number of the first cell, the cells, and the report's bytes
 pub record Report : Type 0 where
@@ -52,7 +52,7 @@ reports =
     ∷ report 65535 (cell [] ∷ cell (first ∷ []) ∷ []) (x 4 0x00010000 ++ firstBytes)
     ∷ []
 
--- ---- how many entries, and the greatest error: of x and of the cells' errors, by their bits
+-- ---- how many entries, and the greatest error: of x and of the magnitudes of the cells' errors, by their bits
 
 pub record Errors : Type 0 where
   pub from : ℕ
@@ -82,6 +82,10 @@ least = 1
 abbrev endless : ℕ
 endless = 0x7ff0000000000000
 
+-- with a minus sign
+abbrev below0 : ℕ → ℕ
+below0 b = 0x8000000000000000 + b
+
 unfoldable pub greatests : List Errors
 greatests =
     errors 0 [] 0 0 {- none: bits 0 -}
@@ -98,6 +102,15 @@ greatests =
     ∷ errors 0 ((whole ∷ []) ∷ (endless ∷ []) ∷ []) 2 endless
     ∷ errors half ((quarter ∷ []) ∷ []) 1 half {- x itself -}
     ∷ errors quarter ((half ∷ []) ∷ []) 1 half
+    ∷ errors 0 ((below0 half ∷ []) ∷ []) 1 half {- below 0: without the sign -}
+    ∷ errors 0 ((below0 half ∷ []) ∷ (quarter ∷ []) ∷ (least ∷ []) ∷ []) 3 half
+    ∷ errors 0 ((quarter ∷ []) ∷ (least ∷ below0 half ∷ quarter ∷ []) ∷ (least ∷ []) ∷ []) 5 half
+    ∷ errors 0 ((quarter ∷ []) ∷ (least ∷ []) ∷ (below0 half ∷ []) ∷ []) 3 half
+    ∷ errors 0 ((below0 whole ∷ []) ∷ (more ∷ []) ∷ []) 2 more {- a step of a double, on either side -}
+    ∷ errors 0 ((whole ∷ []) ∷ (below0 more ∷ []) ∷ []) 2 more
+    ∷ errors 0 ((below0 endless ∷ []) ∷ (whole ∷ []) ∷ []) 2 endless
+    ∷ errors half ((below0 quarter ∷ []) ∷ []) 1 half
+    ∷ errors quarter ((below0 half ∷ []) ∷ []) 1 half
     ∷ []
 
 -- ---- the reals of UNITS, by the bits of user unit and d: their sixteen bytes, or none

@@ -3,5 +3,6 @@ pub mod CallLaws
 pub mod CellLaws
 pub mod RoomLaws
 pub mod EdgesLaws
+pub mod SidesLaws
 pub mod StayLaws
 pub mod PromiseLaws

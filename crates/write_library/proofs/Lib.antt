@@ -7,3 +7,4 @@ pub mod LibraryLaws
 pub mod CallLaws
 pub mod RoomLaws
 pub mod PromiseLaws
+pub mod SidesLaws

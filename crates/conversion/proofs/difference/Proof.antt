@@ -2,8 +2,6 @@
 use mathlib.Core.Path.{ap}
 use mir.Syntax.{w32}
 use mir.ValLaws.{toZ-ofZ}
-use lib.IntN.{ℤ}
-use lib.Ieee.{binary64, sub, mul, ofInt}
 use Rattle.conversion.specs.Convert.{difference}
 use borrow.Author.Needs.{needs}
 use Rattle.conversion.proofs.difference.Statement.{statement}
@@ -15,7 +13,7 @@ int-to-float-result c = search needs
 returns : tie.Need-returns
 unfolding difference
 returns c = let a = c .before .args in
-    ap (λ (y : ℤ). sub binary64 (mul binary64 (ofInt binary64 y) (a .d)) (a .p)) (toZ-ofZ w32 (a .q) (c .before .fits .q))
+    ap (difference (a .d) (a .p)) (toZ-ofZ w32 (a .q) (c .before .fits .q))
 
 pub difference-spec : {M : Type 1} → statement M
 difference-spec = tie.close (tie.spec int-to-float-result returns)
