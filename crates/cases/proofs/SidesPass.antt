@@ -16,9 +16,9 @@ use Rattle.binary64.proofs.AbsLaws.{abs-abs}
 use Rattle.conversion.specs.declared.Deviation.{Deviation}
 use Rattle.conversion.specs.declared.Entry.{Entry}
 use Rattle.conversion.specs.Made.{Made, refused, made}
-use Rattle.conversion.specs.Convert.{Spot, difference, counts, convertPhysical, arrayEndpoint}
+use Rattle.conversion.specs.Convert.{Spot, difference, counts, deviations, convertPhysical, arrayEndpoint}
 use Rattle.conversion.specs.Entry.{entryOf, entryBytes, greatestFrom}
-use Rattle.conversion.specs.Side.{TellsSide, EntryTellsSide, errorOf, rustEntryOf, rustGreatest, SameMagnitude, unsigned, unsignedEntry, SignAside}
+use Rattle.conversion.specs.Side.{TellsSide, EntryTellsSide, errorOf, rustDeviations, rustEntryOf, rustGreatest, SameMagnitude, unsigned, unsignedEntry, SignAside}
 use Rattle.stream.specs.Structure.{Structure}
 use Rattle.stream.specs.Library.{FileHead}
 use Rattle.cell.specs.Cell as C
@@ -27,7 +27,7 @@ use Rattle.cell.specs.Sides.{EntriesTellSides}
 use Rattle.library.specs.Library as L
 use Rattle.library.specs.Library.{WrittenCell, libraryFile}
 use Rattle.library.specs.Sides.{LibraryTellsSides}
-use Rattle.cases.specs.Doubles.{minus, half, one, three, infinity, i32MaxAndHalf}
+use Rattle.cases.specs.Doubles.{up, minus, half, one, three, infinity, i32MaxAndHalf}
 use Rattle.cases.specs.Sides.{quarter, twoAndQuarter, twoAndThreeQuarters, Row, rows, Corner, corners, Choice, choices, Greatest, greatests}
 use Rattle.cases.proofs.Open.{opened}
 
@@ -203,7 +203,19 @@ module _ (claim : SignAside) (i kind : ℕ) (vs : List Deviation) where
 pub same-greatest : SignAside → (x : Float) (es : List Entry) → toBits binary64 (greatestFrom x es) ≡ toBits binary64 (rustGreatest x (map unsignedEntry es))
 same-greatest claim x es = ap (toBits binary64) (claim .greatest x es)
 
--- the Rust's rules, by hand: 0.25 and then 0.5, which replaces; 0.5 and then 0.25; and equal ones, where the first stays
+-- and so are a conversion's deviations
+pub same-deviations : SignAside → (d : Float) (at : Spot) (p : Float) (q : ℤ) → errorsIn (map unsigned (deviations d at p q)) ≡ errorsIn (rustDeviations d at p q)
+same-deviations claim d at p q = ap errorsIn (claim .deviation d at p q)
+
+-- the Rust's rules, by hand: 2.25 as 2 and 2.75 as 3, both 0.25; 3 as 3, and a step above 3
+abbrev rustErrors : ℕ → ℕ → List ℕ
+rustErrors p q = errorsIn (rustDeviations (double one) somewhere (double p) (pos q))
+
+pub rust-deviations : rustErrors twoAndQuarter 2 ++ rustErrors twoAndThreeQuarters 3 ++ rustErrors three 3 ++ rustErrors (up 1 three) 3 ≡ quarter ∷ quarter ∷ []
+unfolding opened
+rust-deviations = refl
+
+-- 0.25 and then 0.5, which replaces; 0.5 and then 0.25; and equal ones, where the first stays
 abbrev rustChosen : List ℕ → List ℕ
 rustChosen es = map (λ e. e .place) (rustEntryOf 0 4 (deviationsFrom 0 es))
 
