@@ -24,3 +24,4 @@ pub mod Exact
 pub mod Beside
 pub mod TimesBack
 pub mod Side
+pub mod QuotientSide

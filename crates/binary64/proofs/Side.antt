@@ -127,12 +127,20 @@ under-plus (inf false) (inf t) g s h = absurd g
 under-plus (inf false) (fin t n d) g s h = absurd h
 under-plus (fin r m e) y g s h = tt
 
+nothing : (s : Bool) → sizeOf (fin s 0 (pos 0)) ≡ 0
+unfolding sizeOf
+nothing s = refl
+
 less-or : (a b : ℤ) → (b ≤ℤ a → a <ℤ b) → a <ℤ b
 less-or a b f = go (ltZ a b) refl
   where
     go : (t : Bool) → ltZ a b ≡ t → a <ℤ b
     go true h = ltZ-yes (subst T (sym h) tt)
     go false h = f (ltZ-no (subst (λ (t : Bool). T (not t)) (sym h) tt))
+
+-- nothing, rounded
+pub zero-size : (s : Bool) (c : ℕ) → 0 < c → sizeOf (round binary64 s 0 c) ≡ 0
+zero-size s c C = ap sizeOf (round-zero s c C) ∙ nothing s
 
 -- ---- where the first of the two is w units with the sign s, rounded
 
@@ -144,11 +152,7 @@ module _ (s : Bool) (w : ℕ) (y : Float) (Y : T (fits binary64 y)) (g : T (fini
   X = round-fits binary64 s w unit
 
   no-units : w ≤ 0 → sizeOf x ≤ 0
-  unfolding sizeOf
-  no-units h = le-of-eq (ap sizeOf (ap (λ (k : ℕ). round binary64 s k unit) (le-antisymm h zero-le) ∙ round-zero s unit (pow-pos 1074)) ∙ nothing)
-    where
-      nothing : sizeOf (fin s 0 (pos 0)) ≡ 0
-      nothing = refl
+  no-units h = le-of-eq (ap (λ (k : ℕ). sizeOf (round binary64 s k unit)) (le-antisymm h zero-le) ∙ zero-size s unit (pow-pos 1074))
 
   small-finite : w ≤ sizeOf y → T (finite x)
   small-finite h = finite-below y Y g s w unit (pow-pos 1074) (mul-le-mul-right unit h)

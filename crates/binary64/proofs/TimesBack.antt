@@ -322,14 +322,16 @@ times-size i l x X f s = times-round false i (ofInt binary64 (pos i)) (round-who
 pub size-pos : (d : Float) → T (fits binary64 d) → T (positive d) → 0 < sizeOf d
 size-pos d D b = first-pos (sizeOf d) (den d) (subst (λ (n : ℕ). 0 < n) (sym (exact d D)) (mul-pos (num-pos d b) (pow-pos 1074)))
 
-pub quotient-sizes : (p d : Float) → T (fits binary64 p) → T (fits binary64 d) → T (finite p) → T (positive d) → negative p ≡ false → div binary64 p d ≡ round binary64 false (sizeOf p) (sizeOf d)
-quotient-sizes p d P D f b s =
+pub quotient-round : (p d : Float) → T (fits binary64 p) → T (fits binary64 d) → T (finite p) → T (positive d) → div binary64 p d ≡ round binary64 (negative p) (sizeOf p) (sizeOf d)
+quotient-round p d P D f b =
     div-is binary64 p d f b
-    ∙ ap (λ (t : Bool). round binary64 t (num p * den d) (num d * den p)) s
-    ∙ round-same binary64 false (num p * den d) (num d * den p) (sizeOf p) (sizeOf d) (mul-pos (num-pos d b) (den-pos p)) (size-pos d D b) (cross (num p) (den p) (sizeOf p) (num d) (den d) (sizeOf d) unit (exact p P) (exact d D))
+    ∙ round-same binary64 (negative p) (num p * den d) (num d * den p) (sizeOf p) (sizeOf d) (mul-pos (num-pos d b) (den-pos p)) (size-pos d D b) (cross (num p) (den p) (sizeOf p) (num d) (den d) (sizeOf d) unit (exact p P) (exact d D))
   where
     cross : (n c k m e l u : ℕ) → k * c ≡ n * u → l * e ≡ m * u → n * e * l ≡ k * (m * c)
     cross n c k m e l u h g = mul-assoc n e l ∙ ap (λ (y : ℕ). n * y) (mul-comm e l ∙ g) ∙ mul-left-comm n m u ∙ ap (λ (y : ℕ). m * y) (sym h) ∙ mul-left-comm m k c
+
+quotient-sizes : (p d : Float) → T (fits binary64 p) → T (fits binary64 d) → T (finite p) → T (positive d) → negative p ≡ false → div binary64 p d ≡ round binary64 false (sizeOf p) (sizeOf d)
+quotient-sizes p d P D f b s = quotient-round p d P D f b ∙ ap (λ (t : Bool). round binary64 t (sizeOf p) (sizeOf d)) s
 
 -- s is within a step of v, as a double and as the whole number nearest to it
 pub record Back (v : ℕ) (s : Float) : Type 0 where

@@ -9,16 +9,19 @@ use lib.IntN.{ℤ, pos, _*ℤ_}
 use lib.Signed.{_<ℤ_}
 use lib.Ieee.{Float, binary64, fits, ofBits, toBits, sub, mul, div, lt, ofInt}
 use lib.Ieee.Fits.{and-l}
+use lib.Ieee.Positive.{positive, positive-finite}
+use lib.Ieee.Scale.{finite}
 use Rattle.parsing.specs.All.{All, more}
 use Rattle.binary64.specs.Value.{abs, scaled, zero64}
 use Rattle.binary64.specs.Step.{oneStep}
 use Rattle.binary64.proofs.AbsLaws.{abs-abs}
 use Rattle.conversion.specs.declared.Deviation.{Deviation}
 use Rattle.conversion.specs.declared.Entry.{Entry}
-use Rattle.conversion.specs.Made.{Made, refused, made}
-use Rattle.conversion.specs.Convert.{Spot, difference, counts, deviations, convertPhysical, arrayEndpoint}
+use Rattle.conversion.specs.declared.GdsRoundingPolicy.the-variants.{Floor, Ceil}
+use Rattle.conversion.specs.Made.{Made, refused, made, pure}
+use Rattle.conversion.specs.Convert.{Spot, inRange, databaseValue, difference, counts, deviations, convertPhysical, arrayEndpoint}
 use Rattle.conversion.specs.Entry.{entryOf, entryBytes, greatestFrom}
-use Rattle.conversion.specs.Side.{TellsSide, EntryTellsSide, errorOf, rustDeviations, rustEntryOf, rustGreatest, SameMagnitude, unsigned, unsignedEntry, SignAside}
+use Rattle.conversion.specs.Side.{TellsSide, CountedTellsSide, EntryTellsSide, FloorNeverAbove, CeilingNeverBelow, errorOf, rustDeviations, rustEntryOf, rustGreatest, SameMagnitude, unsigned, unsignedEntry, SignAside}
 use Rattle.stream.specs.Structure.{Structure}
 use Rattle.stream.specs.Library.{FileHead}
 use Rattle.cell.specs.Cell as C
@@ -177,6 +180,15 @@ pub entry-of-library : LibraryTellsSides → (policy : ℕ) (d : Float) (sheet :
     → T (fits binary64 d) → libraryFile policy d sheet ≡ L.written (record { head = front; cells = before ++ w ∷ after }) → w .entries ≡ es ++ e ∷ fs → Written d e
 entry-of-library claim policy d sheet front before w after es e fs F h k =
     entry-written d e (at-place es e fs (subst (All (EntryTellsSide d)) k (at-place before w after (claim policy d sheet (record { head = front; cells = before ++ w ∷ after }) F h))))
+
+-- of a conversion under floor and under ceiling
+pub floor-error : FloorNeverAbove → CountedTellsSide → (d p : Float) (q : ℤ) → T (fits binary64 d) → T (positive d) → T (fits binary64 p) → T (finite p) → T (inRange q)
+    → databaseValue Floor d p ≡ pure q → T (counts d p q) → T (lt zero64 (difference d p q)) → q ≡ pos 0
+floor-error claim tells d p q D b P f r e c a = claim d p q D b P e c (tells d p q D (positive-finite d b) P f r c .above a)
+
+pub ceiling-error : CeilingNeverBelow → CountedTellsSide → (d p : Float) (q : ℤ) → T (fits binary64 d) → T (positive d) → T (fits binary64 p) → T (finite p) → T (inRange q)
+    → databaseValue Ceil d p ≡ pure q → T (counts d p q) → T (lt (difference d p q) zero64) → ⊥
+ceiling-error claim tells d p q D b P f r e c a = claim d p q D b P e c (tells d p q D (positive-finite d b) P f r c .below a)
 
 -- the bits of the magnitude are those of |p − q × d|
 pub magnitude-bits : SameMagnitude → (d p : Float) (q : ℤ) → toBits binary64 (abs (difference d p q)) ≡ toBits binary64 (abs (sub binary64 p (mul binary64 (ofInt binary64 q) d)))

@@ -15,4 +15,5 @@ pub mod AnswerLaws
 pub mod SignedLaws
 pub mod WholeLaws
 pub mod SideLaws
+pub mod PolicySideLaws
 pub mod Rows

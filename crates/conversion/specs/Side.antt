@@ -4,15 +4,18 @@ use mathlib.Core.Bool.{not, _&&_, cond}
 use mathlib.Core.List.{List, [], _∷_, map}
 use Prim.Native.Nat.{ℕ, _+_}
 use lib.Dec.{T}
-use lib.IntN.{ℤ, _*ℤ_}
+use lib.IntN.{ℤ, pos, _*ℤ_}
 use lib.Signed.{_<ℤ_}
 use lib.Ieee.{Float, binary64, fits, sub, mul, div, lt, ofInt}
 use lib.Ieee.Scale.{finite}
+use lib.Ieee.Positive.{positive}
 use Rattle.binary64.specs.Value.{scaled, abs, zero64}
 use Rattle.binary64.specs.Step.{oneStep}
 use Rattle.conversion.specs.declared.Deviation.{Deviation}
 use Rattle.conversion.specs.declared.Entry.{Entry}
-use Rattle.conversion.specs.Convert.{Spot, inRange, difference, counts, deviations}
+use Rattle.conversion.specs.declared.GdsRoundingPolicy.the-variants.{Floor, Ceil}
+use Rattle.conversion.specs.Made.{pure}
+use Rattle.conversion.specs.Convert.{Spot, inRange, databaseValue, difference, counts, deviations}
 use Rattle.conversion.specs.Entry.{firstEntry, entryOf, greatestFrom}
 
 -- ---- the side
@@ -42,6 +45,13 @@ pub record EntryTellsSide (d : Float) (e : Entry) : Type 0 where
   pub error : e .error ≡ difference d (e .physical) (e .database)
   pub counted : T (counts d (e .physical) (e .database))
   pub side : TellsSide d (e .physical) (e .database) (e .error)
+
+-- What is converted under floor never lies above its physical value, but for 0; and under ceiling never below. (In the unit 1, −2^-1074 snaps to 0 and has an entry. An array's far corner is no conversion, and may lie on either side.)
+abbrev pub FloorNeverAbove : Type 0
+FloorNeverAbove = (d p : Float) (q : ℤ) → T (fits binary64 d) → T (positive d) → T (fits binary64 p) → databaseValue Floor d p ≡ pure q → T (counts d p q) → Above d p q → q ≡ pos 0
+
+abbrev pub CeilingNeverBelow : Type 0
+CeilingNeverBelow = (d p : Float) (q : ℤ) → T (fits binary64 d) → T (positive d) → T (fits binary64 p) → databaseValue Ceil d p ≡ pure q → T (counts d p q) → Below d p q → ⊥
 
 -- ---- the Rust's report, which has magnitudes alone (document 01, "Result three"; `record_quantization` of write/conversion.rs)
 
