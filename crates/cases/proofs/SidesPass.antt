@@ -1,19 +1,17 @@
 -- Deviations, which of them stands for an element, and the greatest error are as known by hand, computed; and no clause of what is claimed of the sign can be left out. Assumes nothing.
 use mathlib.Core.Path.{_≡_, refl, sym, ap, ap₂, _∙_, subst}
-use mathlib.Core.Bool.{not, true≢false}
+use mathlib.Core.Bool.{true≢false}
 use mathlib.Core.List.{List, [], _∷_, _++_, map}
 use Prim.Native.Nat.{ℕ, suc}
 use lib.Dec.{T, eqb}
 use lib.ListN.{take}
 use lib.IntN.{ℤ, pos, _*ℤ_}
 use lib.Signed.{_<ℤ_}
-use lib.Ieee.{Float, binary64, fits, ofBits, toBits, sub, mul, div, lt, ofInt}
-use lib.Ieee.Fits.{and-l}
+use lib.Ieee.{Float, binary64, fits, ofBits, toBits, sub, mul, lt, ofInt}
 use lib.Ieee.Positive.{positive, positive-finite}
 use lib.Ieee.Scale.{finite}
-use Rattle.parsing.specs.All.{All, more}
+use Rattle.parsing.specs.All.{All}
 use Rattle.binary64.specs.Value.{abs, scaled, zero64}
-use Rattle.binary64.specs.Step.{oneStep}
 use Rattle.binary64.proofs.AbsLaws.{abs-abs}
 use Rattle.conversion.specs.declared.Deviation.{Deviation}
 use Rattle.conversion.specs.declared.Entry.{Entry}
@@ -22,6 +20,7 @@ use Rattle.conversion.specs.Made.{Made, refused, made, pure}
 use Rattle.conversion.specs.Convert.{Spot, inRange, databaseValue, difference, counts, deviations, convertPhysical, arrayEndpoint}
 use Rattle.conversion.specs.Entry.{entryOf, entryBytes, greatestFrom}
 use Rattle.conversion.specs.Side.{TellsSide, CountedTellsSide, EntryTellsSide, FloorNeverAbove, CeilingNeverBelow, errorOf, rustDeviations, rustEntryOf, rustGreatest, SameMagnitude, unsigned, unsignedEntry, SignAside}
+use Rattle.conversion.proofs.DeviationLaws.{counts-above}
 use Rattle.stream.specs.Structure.{Structure}
 use Rattle.stream.specs.Library.{FileHead}
 use Rattle.cell.specs.Cell as C
@@ -30,6 +29,7 @@ use Rattle.cell.specs.Sides.{EntriesTellSides}
 use Rattle.library.specs.Library as L
 use Rattle.library.specs.Library.{WrittenCell, libraryFile}
 use Rattle.library.specs.Sides.{LibraryTellsSides}
+use Rattle.library.proofs.AloneLaws.{middle}
 use Rattle.cases.specs.Doubles.{up, minus, half, one, three, infinity, i32MaxAndHalf}
 use Rattle.cases.specs.Sides.{quarter, twoAndQuarter, twoAndThreeQuarters, Row, rows, Corner, corners, Choice, choices, Greatest, greatests}
 use Rattle.cases.proofs.Open.{opened}
@@ -149,11 +149,6 @@ no-error t = t .counted
 
 -- ---- what the claims give of any entry, written out
 
--- an element of a list
-at-place : {A : Type 0} {P : A → Type 0} (s : List A) (a : A) (t : List A) → All P (s ++ a ∷ t) → P a
-at-place [] a t (more h hs) = h
-at-place (b ∷ s) a t (more h hs) = at-place s a t hs
-
 -- q × d − p by a product and a difference, not 0, above 0 exactly where q × d is greater than p, below 0 exactly where it is less
 pub record Written (d : Float) (e : Entry) : Type 0 where
   pub some : T (lt zero64 (abs (e .error)))
@@ -163,23 +158,18 @@ pub record Written (d : Float) (e : Entry) : Type 0 where
   pub below : T (lt (e .error) zero64) → (e .database *ℤ scaled d) <ℤ scaled (e .physical)
   pub less : (e .database *ℤ scaled d) <ℤ scaled (e .physical) → T (lt (e .error) zero64)
 
--- what counts is above 0 in magnitude
-above-none : (d p : Float) (q : ℤ) → T (counts d p q) → T (lt zero64 (abs (difference d p q)))
-unfolding counts
-above-none d p q h = and-l (lt zero64 (abs (difference d p q))) (not (oneStep (div binary64 p d) (ofInt binary64 q))) h
-
 entry-written : (d : Float) (e : Entry) → EntryTellsSide d e → Written d e
 unfolding difference
-entry-written d e t = record { some = subst (λ (x : Float). T (lt zero64 (abs x))) (sym (t .error)) (above-none d (e .physical) (e .database) (t .counted)); error = ap (toBits binary64) (t .error); above = t .side .above; greater = t .side .is-above; below = t .side .below; less = t .side .is-below }
+entry-written d e t = record { some = subst (λ (x : Float). T (lt zero64 (abs x))) (sym (t .error)) (counts-above d (e .physical) (e .database) (t .counted)); error = ap (toBits binary64) (t .error); above = t .side .above; greater = t .side .is-above; below = t .side .below; less = t .side .is-below }
 
 pub entry-of-cell : EntriesTellSides → (policy : ℕ) (d : Float) (sheet : List ℕ) (s : Structure) (es : List Entry) (e : Entry) (fs : List Entry) → T (fits binary64 d)
     → cellStructure policy d sheet ≡ C.written s (es ++ e ∷ fs) → Written d e
-entry-of-cell claim policy d sheet s es e fs F h = entry-written d e (at-place es e fs (claim policy d sheet s (es ++ e ∷ fs) F h))
+entry-of-cell claim policy d sheet s es e fs F h = entry-written d e (middle es e fs (claim policy d sheet s (es ++ e ∷ fs) F h))
 
 pub entry-of-library : LibraryTellsSides → (policy : ℕ) (d : Float) (sheet : List ℕ) (front : FileHead) (before : List WrittenCell) (w : WrittenCell) (after : List WrittenCell) (es : List Entry) (e : Entry) (fs : List Entry)
     → T (fits binary64 d) → libraryFile policy d sheet ≡ L.written (record { head = front; cells = before ++ w ∷ after }) → w .entries ≡ es ++ e ∷ fs → Written d e
 entry-of-library claim policy d sheet front before w after es e fs F h k =
-    entry-written d e (at-place es e fs (subst (All (EntryTellsSide d)) k (at-place before w after (claim policy d sheet (record { head = front; cells = before ++ w ∷ after }) F h))))
+    entry-written d e (middle es e fs (subst (All (EntryTellsSide d)) k (middle before w after (claim policy d sheet (record { head = front; cells = before ++ w ∷ after }) F h))))
 
 -- of a conversion under floor and under ceiling
 pub floor-error : FloorNeverAbove → CountedTellsSide → (d p : Float) (q : ℤ) → T (fits binary64 d) → T (positive d) → T (fits binary64 p) → T (finite p) → T (inRange q)

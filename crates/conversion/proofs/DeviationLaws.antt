@@ -1,9 +1,11 @@
 -- Whether a deviation counts. Assumes nothing.
-use mathlib.Core.Path.{_≡_, refl, ap, _∙_}
+use mathlib.Core.Path.{_≡_, refl, ap, _∙_, subst}
 use mathlib.Core.Bool.{Bool, true, false, not, _&&_}
 use mathlib.Core.List.{[], _∷_}
+use lib.Dec.{T}
 use lib.IntN.{ℤ}
 use lib.Ieee.{Float, binary64, lt, div, ofInt, ofBits}
+use lib.Ieee.Fits.{and-l, and-r}
 use Rattle.binary64.specs.Value.{abs, zero64}
 use Rattle.binary64.specs.Step.{oneStep}
 use Rattle.conversion.specs.declared.Deviation.{Deviation}
@@ -14,6 +16,17 @@ use Rattle.conversion.specs.Convert.{Spot, difference, counts, deviation
 pub zero-is : ofBits binary64 0 ≡ zero64
 unfolding ofBits
 zero-is = refl
+
+-- ---- what counts is above 0 in magnitude, and s and q are more than one step apart
+
+module _ (d p : Float) (q : ℤ) (c : T (counts d p q)) where
+  pub counts-above : T (lt zero64 (abs (difference d p q)))
+  unfolding counts
+  counts-above = and-l (lt zero64 (abs (difference d p q))) (not (oneStep (div binary64 p d) (ofInt binary64 q))) c
+
+  pub counts-far : oneStep (div binary64 p d) (ofInt binary64 q) ≡ true → ⊥
+  unfolding counts
+  counts-far e = subst (λ (t : Bool). T (not t)) e (and-r (lt zero64 (abs (difference d p q))) (not (oneStep (div binary64 p d) (ofInt binary64 q))) c)
 
 -- ---- whether it counts; x is the difference, and a its magnitude
 

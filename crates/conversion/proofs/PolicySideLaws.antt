@@ -1,18 +1,18 @@
 -- Under floor nothing that is converted lies above its physical value but 0, and under ceiling nothing below: the statements of specs/Side. Assumes nothing.
 use mathlib.Core.Path.{_≡_, refl, sym, ap, _∙_, subst}
 use mathlib.Core.Logic.{_⊎_, inl, inr}
-use mathlib.Core.Bool.{Bool, true, false, not, cond}
+use mathlib.Core.Bool.{Bool, true, false, cond}
 use mathlib.Core.List.{[]}
 use Prim.Native.Nat.{ℕ, zero, suc}
 use lib.Dec.{T}
 use lib.IntN.{ℤ, pos, _*ℤ_, zero-*ℤ}
 use lib.Signed.{_≤ℤ_, _<ℤ_, clashℤ}
-use lib.Ieee.{Float, fin, binary64, round, div, lt, ofInt, fits}
-use lib.Ieee.Fits.{and-r, ofInt-fits, div-fits}
+use lib.Ieee.{Float, fin, binary64, round, div, ofInt, fits}
+use lib.Ieee.Fits.{ofInt-fits, div-fits}
 use lib.Ieee.Positive.{positive}
 use lib.Ieee.Scale.{finite}
 use lib.Ieee as Ieee
-use Rattle.binary64.specs.Value.{unit, sizeOf, halfUp, negative, signed, scaled, abs, zero64, roundAway, floorOf, ceilOf}
+use Rattle.binary64.specs.Value.{unit, sizeOf, halfUp, negative, signed, scaled, roundAway, floorOf, ceilOf}
 use Rattle.binary64.specs.Step.{orderedBits, ordered, oneStep, nearestDouble}
 use Rattle.binary64.proofs.Order.{both-orders, below→signed}
 use Rattle.binary64.proofs.Quotient.{quotient-sign}
@@ -22,8 +22,9 @@ use Rattle.binary64.proofs.StepLaws.{step-self}
 use Rattle.binary64.proofs.Exact.{is-finite, int-is}
 use Rattle.binary64.proofs.QuotientSide.{floor-under, ceil-over, int-scaled, quotient-under, quotient-over}
 use Rattle.conversion.specs.declared.GdsRoundingPolicy.the-variants.{Floor, Ceil}
-use Rattle.conversion.specs.Convert.{inRange, onGrid, rounded, difference, counts}
+use Rattle.conversion.specs.Convert.{inRange, onGrid, rounded, counts}
 use Rattle.conversion.specs.Side.{Above, Below, FloorNeverAbove, CeilingNeverBelow}
+use Rattle.conversion.proofs.DeviationLaws.{counts-far}
 use Rattle.conversion.proofs.MadeLaws.{made-yields}
 use Rattle.conversion.proofs.ConvertLaws.{value-passed}
 use Rattle.conversion.proofs.WholeLaws.{small}
@@ -61,11 +62,6 @@ no-more : (p : Float) → negative p ≡ true → scaled p ≤ℤ pos 0
 unfolding scaled
 no-more p h = subst (λ (t : Bool). signed t (sizeOf p) ≤ℤ pos 0) (sym h) (below→signed true false (sizeOf p) 0 tt)
 
--- what counts is no step away
-far : (d p : Float) (q : ℤ) → T (counts d p q) → oneStep (div binary64 p d) (ofInt binary64 q) ≡ true → ⊥
-unfolding counts
-far d p q c e = subst (λ (t : Bool). T (not t)) e (and-r (lt zero64 (abs (difference d p q))) (not (oneStep (div binary64 p d) (ofInt binary64 q))) c)
-
 module _ (d p : Float) (q : ℤ) (D : T (fits binary64 d)) (b : T (positive d)) (P : T (fits binary64 p)) (c : T (counts d p q)) where
   abbrev s : Float
   s = div binary64 p d
@@ -75,12 +71,12 @@ module _ (d p : Float) (q : ℤ) (D : T (fits binary64 d)) (b : T (positive d)) 
 
   -- s is not q itself
   apart : T (finite s) → T (inRange q) → scaled s ≤ℤ scaled y → scaled y ≤ℤ scaled s → ⊥
-  apart f r h k = far d p q c (level-beside s y (div-fits binary64 p d) (ofInt-fits binary64 q) f (is-finite (int-is q (small q r))) (both-orders (scaled s) (scaled y) h k))
+  apart f r h k = counts-far d p q c (level-beside s y (div-fits binary64 p d) (ofInt-fits binary64 q) f (is-finite (int-is q (small q r))) (both-orders (scaled s) (scaled y) h k))
 
   module _ (v : T (finite p)) (f : T (finite s)) (r : T (inRange q)) where
     floor-above : (t : Bool) → onGrid s ≡ t → cond t (roundAway s) (floorOf s) ≡ q → Above d p q → q ≡ pos 0
     floor-above true g e a = elim (snapped-beside s q g e) [
-      | inl k ↦ absurd (far d p q c k)
+      | inl k ↦ absurd (counts-far d p q c k)
       | inr z ↦ z .0
     ]
     floor-above false g e a =
@@ -89,7 +85,7 @@ module _ (d p : Float) (q : ℤ) (D : T (fits binary64 d)) (b : T (positive d)) 
 
     ceil-below : (t : Bool) → onGrid s ≡ t → cond t (roundAway s) (ceilOf s) ≡ q → Below d p q → ⊥
     ceil-below true g e a = elim (snapped-beside s q g e) [
-      | inl k ↦ far d p q c k
+      | inl k ↦ counts-far d p q c k
       | inr z ↦ clashℤ (subst (λ (x : ℤ). (x *ℤ scaled d) <ℤ scaled p) (z .0) a) (subst (λ (x : ℤ). scaled p ≤ℤ x) (sym (zero-*ℤ (scaled d))) (no-more p (sym (quotient-sign p d P D v b f) ∙ z .1)))
     ]
     ceil-below false g e a =

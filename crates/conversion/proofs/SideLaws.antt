@@ -9,7 +9,6 @@ use lib.Dec.{T, ltb→lt}
 use lib.IntN.{ℤ, pos, _*ℤ_}
 use lib.Signed.{clashℤ}
 use lib.Ieee.{Float, nan, inf, fin, binary64, fits, up, down, mul, div, lt, ofInt}
-use lib.Ieee.Fits.{and-l}
 use lib.Ieee.Scale.{finite}
 use Rattle.binary64.specs.Value.{scaled, abs, zero64}
 use Rattle.binary64.specs.Step.{oneStep}
@@ -21,6 +20,7 @@ use Rattle.conversion.specs.declared.Entry.{Entry}
 use Rattle.conversion.specs.Convert.{Spot, inRange, difference, counts, deviations}
 use Rattle.conversion.specs.Entry.{firstEntry, takes, takesAll, entryOf, greatestFrom}
 use Rattle.conversion.specs.Side.{Above, Below, TellsSide, CountedTellsSide, EntryTellsSide, errorOf, rustDeviations, rustTakes, rustTakesAll, rustEntryOf, rustGreatest, SameMagnitude, unsigned, unsignedEntry, SignAside}
+use Rattle.conversion.proofs.DeviationLaws.{counts-above}
 use Rattle.conversion.proofs.FoldLaws.{larger, smaller}
 use Rattle.conversion.proofs.WholeLaws.{small}
 
@@ -53,9 +53,8 @@ tells d p q e (inr h) = record {
 }
 
 pub counted-tells-side : CountedTellsSide
-unfolding counts difference
-counted-tells-side d p q D f P g r c =
-    tells d p q (difference d p q) (times-side q (small q r) d p D f P g (and-l (lt zero64 (abs (difference d p q))) (not (oneStep (div binary64 p d) (ofInt binary64 q))) c))
+unfolding difference
+counted-tells-side d p q D f P g r c = tells d p q (difference d p q) (times-side q (small q r) d p D f P g (counts-above d p q c))
 
 -- ---- deviations and entries
 

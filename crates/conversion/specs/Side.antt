@@ -46,7 +46,7 @@ pub record EntryTellsSide (d : Float) (e : Entry) : Type 0 where
   pub counted : T (counts d (e .physical) (e .database))
   pub side : TellsSide d (e .physical) (e .database) (e .error)
 
--- What is converted under floor never lies above its physical value, but for 0; and under ceiling never below. (In the unit 1, −2^-1074 snaps to 0 and has an entry. An array's far corner is no conversion, and may lie on either side.)
+-- What is converted under floor never lies above its physical value, but for 0; and under ceiling never below (document 01, "Result two"). (In the unit 1, −2^-1074 snaps to 0 and has an entry. An array's far corner is no conversion, and may lie on either side.)
 abbrev pub FloorNeverAbove : Type 0
 FloorNeverAbove = (d p : Float) (q : ℤ) → T (fits binary64 d) → T (positive d) → T (fits binary64 p) → databaseValue Floor d p ≡ pure q → T (counts d p q) → Above d p q → q ≡ pos 0
 

@@ -85,7 +85,8 @@ cells-alone policy d sheet l e = subst (Whenever (λ l. Each (Alone policy d) (c
 
 -- ---- refusals
 
-middle : {A : Type 0} {P : A → Type 0} (s : List A) (a : A) (t : List A) → All P (s ++ a ∷ t) → P a
+-- an element of a list
+pub middle : {A : Type 0} {P : A → Type 0} (s : List A) (a : A) (t : List A) → All P (s ++ a ∷ t) → P a
 middle [] a t (more h hs) = h
 middle (b ∷ s) a t (more h hs) = middle s a t hs
 
