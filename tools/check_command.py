@@ -5,7 +5,7 @@
 
 Wrong uses and bad files get one message and their status; files are written whole or not at all, and a refusal leaves
 them as they were; cells up to the writer's limit are written; texts and sheets, the program's input, streams, reports,
-pictures, bounds and surveys go through. Of the cells and libraries in files of cases (tools/case_files.py has their form)
+pictures, boxes, bounds and surveys go through. Of the cells and libraries in files of cases (tools/case_files.py has their form)
 each report entry must be shown with the magnitude and the side of its error, and each refusal about a coordinate must name the
 coordinate. The last line counts; the exit status is 0 if nothing was wrong.
 """
@@ -39,6 +39,12 @@ LIBRARY_LINES = [
     'cell 0 ("VIA"), element 1 (node): 1 value affected, worst point 0 x: p 1.0029999999999999e-07, q 100, error 2.9999999999998283e-10 below',
     'cell 1 ("TOP"), element 3 (reference): 2 values affected, worst column endpoint x: p 2.5016e-06, q 2500, error 1.5999999999996967e-09 below',
 ]
+# tools/samples/die.cell under nearest with d = 1, up to its first box's points and whole, and its entry
+DIE_FRONT = "001c0502" + 48 * "0" + "0008060644494500" "00042d0000060d0200eb00062e020000002c1003"
+DIE = (DIE_FRONT + "0000000100000002" "0000000000000002" "0000000000000000" "0000000100000000" "0000000100000002" "00041100"
+       "00042d0000060d0200eb00062e020001002c1003" "0000000000000000" "0000001e00000000" "0000001e00000014" "0000000000000014" "0000000000000000"
+       "00062b020001" "000c2c066469652061726561" "00041100" "00040700")
+DIE_ENTRY = "00000001" "06" "00" "00" "0001" "00000002" "403e400000000000" "0000001e" "bfd0000000000000"
 TURNED = 'cell "A"\nreference "B" 3 1\n  at 0@1 0@1\n  column 10@1 0@1\n  degrees {}\n'
 
 
@@ -127,7 +133,7 @@ REFUSED = (
     ("library a.library --policy strict --unit 1e-9 -o x", 'refusal 18, cell 0 ("VIA"), block 2 (element 1, a node): '), ("library a.library --policy 0 --unit 1e-300 -o x", "refusal 24, outside a cell: "),
     ("show empty", "byte 0"), ("show a.cell", "byte 2"), ("show a.sheet", "it may be a sheet"), ("show cut.str", "cut.str, byte 80: "), ("show a.str --report cut.str", "cut.str, byte 4: report entry"), ("show a.str --report other.report", "other.report, byte 0: report entry: structure \"A\" has no element 0 that is a polygon"), ("show --report library.report", "a library's report is shown with its file"), ("draw a.sheet", "it may be a sheet"), (f"library damaged.sheet {CALL} -o x", "byte 431: element kind 77 is unknown"), ("sheet damaged.sheet", "byte 431: element kind 77 is unknown"), (f"write odd.hex {CALL} -o x", "odd.hex, hex digits"), ("show --report cut.report", "33 bytes, 32 are left"),
     ("draw empty", "byte 0"), ("draw a.gds --structure NO", "there is no structure"), ("draw none.gds", "no structure to draw"), ("sheet empty", "no `cell` line"), ("sheet cut.sheet", "cut.sheet, byte"),
-    ("sheet a.library --cell", "`ravenvanity library` writes"), ("sheet a.cell --library", "which `ravenvanity write` writes"), ("sheet empty --program", "at least 9 bytes"), ("sheet turned.cell", "line 2: this array is turned by 30.0 degrees: give it the lines `sine` and `cosine`"), ("sheet one.cell", "stand together"),
+    ("sheet a.library --cell", "`ravenvanity library` writes"), ("sheet a.cell --library", "which `ravenvanity write` writes"), ("sheet empty --program", "at least 9 bytes"), ("sheet turned.cell", "line 2: this array is turned by 30.0 degrees: give it the lines `sine` and `cosine`"), ("sheet one.cell", "stand together"), ("sheet corner.cell", "corner.cell, line 2: this box has no `second` line"),
     ("sheet infinite.cell --machine-sines", "not finite"), ("bounds 1 0 --unit 1 --policy 0", "refusal 32: "), ("bounds inf 0 --unit 1 --policy 0", "refusal 17, the lower end: "),
     ("bounds 0 -inf --unit 1 --policy 0", "refusal 17, the upper end: "), ("survey 1 0 --unit 1 --policy 0", "refusal 33: "), ("survey -inf 1 --unit 1 --policy 0", "refusal 17: the pitch is not finite"),
 )
@@ -135,7 +141,7 @@ REFUSED = (
 
 def prepared(folder):
     """The files that the tables name."""
-    for name, sample in (("a.cell", "array.cell"), ("grid.cell", "grid.cell"), ("a.library", "two_cells.library")):
+    for name, sample in (("a.cell", "array.cell"), ("grid.cell", "grid.cell"), ("die.cell", "die.cell"), ("a.library", "two_cells.library")):
         with open(os.path.join(SAMPLES, sample), "rb") as f:
             folder.put(name, f.read())
     folder.put("empty", b"")
@@ -145,10 +151,11 @@ def prepared(folder):
     folder.put("turned.cell", TURNED.format("30"))
     folder.put("infinite.cell", TURNED.format("inf"))
     folder.put("one.cell", TURNED.format("30") + "  sine 0.5\n")
+    folder.put("corner.cell", 'cell "A"\nbox 1 2\n  first 0@1 0@1\n')
     folder.put("a.str", bytes.fromhex(ROW))
     folder.put("cut.str", bytes.fromhex(ROW)[:80])
     folder.put("cut.report", bytes.fromhex(ROW_ENTRY)[:32])
-    folder.put("other.report", bytes.fromhex(ROW_ENTRY.replace("0000000005", "0000000001", 1)))
+    folder.put("other.report", bytes.fromhex(ROW_ENTRY.replace("000000000507", "000000000100", 1)))
     folder.put("library.report", bytes.fromhex("00000001" + ROW_ENTRY))
     os.symlink("new", os.path.join(folder.path, "link"))
     for words in ("sheet a.cell -o a.sheet", "sheet a.library -o library.sheet", f"library a.library {CALL} -o a.gds"):
@@ -232,6 +239,10 @@ def sines(folder):
             folder.count.hold(f"not read: {text!r}", False, right)
 
 
+def picture_of(folder, words, error=""):
+    return xml.etree.ElementTree.fromstring(folder.says(words, 0, error).stdout.decode())
+
+
 def shown(folder):
     """Streams and reports as text, and pictures."""
     entry = f"{ROW_WORDS}p 42.5, q 45, error 2.5 above\n"
@@ -248,8 +259,7 @@ def shown(folder):
     done = folder.says("show b.gds --report b.report", 0)
     folder.count.hold("a library's entries", done.stdout.decode().splitlines()[-2:], LIBRARY_LINES)
     for words in ("draw a.str", "draw a.gds", "draw a.gds --structure VIA"):
-        picture = folder.says(words, 0, "outlines" if "str" in words and "structure" not in words else "").stdout
-        root = xml.etree.ElementTree.fromstring(picture.decode())
+        root = picture_of(folder, words, "outlines" if "str" in words and "structure" not in words else "")
         folder.count.hold(f"{words}: a picture", root.tag, "{http://www.w3.org/2000/svg}svg")
     folder.says("draw a.gds -o b.svg", 0)
     folder.says("refusal 18 3", 0)
@@ -334,21 +344,91 @@ FAR_NODES = (
 )
 
 
-def entries_of(folder, nodes, call):
-    """What is shown of the report of a cell of nodes."""
-    folder.put("nodes.cell", 'cell "N"\n' + "".join(f"node 1 0\n  point {point}\n" for point, _ in nodes))
-    folder.says(f"write nodes.cell {call} -o nodes.str --report nodes.report -q", 0)
-    return folder.says("show --report nodes.report", 0).stdout.decode().splitlines()
+def entries_of(folder, elements, call):
+    """What is shown of the report of a cell of these elements, each a text."""
+    folder.put("parts.cell", 'cell "N"\n' + "".join(elements))
+    folder.says(f"write parts.cell {call} -o parts.str --report parts.report -q", 0)
+    return folder.says("show parts.str --report parts.report", 0).stdout.decode().splitlines()[-len(elements):]
+
+
+def node_text(point):
+    return f"node 1 0\n  point {point}\n"
 
 
 def written_sides(folder):
     """The side of what is written: either under nearest, below under floor, above under ceiling."""
     for nodes, d in ((NODES, "1"), (FAR_NODES, "1.1e308")):
         wanted = [f"element {k} (node): {words}" for k, (_, words) in enumerate(nodes)]
-        folder.count.hold(f"entries under nearest, d {d}", entries_of(folder, nodes, f"--policy nearest --unit {d}"), wanted)
+        found = entries_of(folder, [node_text(point) for point, _ in nodes], f"--policy nearest --unit {d}")
+        folder.count.hold(f"entries under nearest, d {d}", found, wanted)
     for policy, side in (("floor", "below"), ("ceiling", "above")):
-        found = entries_of(folder, NODES, f"--policy {policy} --unit 1")
+        found = entries_of(folder, [node_text(point) for point, _ in NODES], f"--policy {policy} --unit 1")
         folder.count.hold(f"sides under {policy}", [line.split(" ")[-1] for line in found], [side] * len(NODES))
+
+
+# the corners of a box, and its entry under nearest: each coordinate counts in every point that has it
+BOXES = (
+    ("2.25@1 0@1", "9@1 9@1", "3 values affected, worst point 0 x: p 2.25, q 2, error 0.25 below"), ("0@1 2.75@1", "9@1 9@1", "3 values affected, worst point 0 y: p 2.75, q 3, error 0.25 above"),
+    ("0@1 0@1", "2.25@1 9@1", "2 values affected, worst point 1 x: p 2.25, q 2, error 0.25 below"), ("0@1 0@1", "9@1 2.75@1", "2 values affected, worst point 2 y: p 2.75, q 3, error 0.25 above"),
+    ("2.25@1 2.75@1", "2.25@1 2.75@1", "10 values affected, worst point 0 x: p 2.25, q 2, error 0.25 below"), ("2.125@1 2.25@1", "2.75@1 2.625@1", "10 values affected, worst point 2 y: p 2.625, q 3, error 0.375 above"),
+    ("0@1 2.25@1", "2.75@1 9@1", "5 values affected, worst point 0 y: p 2.25, q 2, error 0.25 below"), ("3@2 0@1", "3@0.75 9@1", "2 values affected, worst point 1 x: p 2.25, q 2, error 0.25 below"),
+)
+# kind, field, axis and place of entries that the writer never gives, the byte at fault, and what is told
+SPOT = "a box's entry is of point 0 x or y, point 1 x or point 2 y"
+NO_SPOTS = (
+    ((7, 0, 0, 0), 4, "element kind 7 is unknown"), ((6, 1, 2, 0), 5, "a box has no field 1"), ((6, 4, 0, 0), 5, "a box has no field 4"), ((6, 9, 0, 0), 5, "a box has no field 9"), ((6, 0, 3, 0), 6, "axis 3 is unknown"),
+    ((6, 0, 2, 0), 6, f"axis 2 of point 0; {SPOT}"), ((6, 0, 1, 1), 6, f"axis 1 of point 1; {SPOT}"), ((6, 0, 0, 2), 6, f"axis 0 of point 2; {SPOT}"), ((6, 0, 0, 3), 6, f"axis 0 of point 3; {SPOT}"),
+    ((6, 0, 1, 4), 6, f"axis 1 of point 4; {SPOT}"), ((6, 0, 0, 256), 6, f"axis 0 of point 256; {SPOT}"), ((1, 1, 2, 0), 5, "a polygon has no field 1"), ((2, 4, 0, 0), 5, "a path has no field 4"),
+    ((3, 0, 0, 0), 5, "a text has no field 0"), ((4, 7, 0, 0), 5, "a node has no field 7"), ((5, 3, 2, 0), 5, "a reference has no field 3"), ((5, 9, 0, 0), 5, "a reference has no field 9"),
+)
+
+
+def box_text(first, second):
+    return f"box 1 0\n  first {first}\n  second {second}\n"
+
+
+def boxes(folder):
+    """Boxes written, shown and turned back into a text; the entries that theirs may be."""
+    folder.says("write die.cell --policy nearest --unit 1 -o die.str --report die.report", 0, output="accepted: 186 bytes, 1 report entry, greatest error 0.25\n")
+    folder.count.hold("boxes: structure", folder.get("die.str").hex(), DIE)
+    folder.count.hold("boxes: report", folder.get("die.report").hex(), DIE_ENTRY)
+    folder.says("sheet die.cell -o die.sheet", 0)
+    folder.says("sheet die.sheet -o back.cell", 0)
+    folder.says("sheet back.cell -o -", 0, output=folder.get("die.sheet"))
+    found = entries_of(folder, [box_text(first, second) for first, second, _ in BOXES], CALL_1)
+    folder.count.hold("entries of boxes", found, [f"element {k} (box): {words}" for k, (_, _, words) in enumerate(BOXES)])
+    for spot, byte, words in NO_SPOTS:
+        entry = bytes(4) + struct.pack(">BBBH", *spot) + bytes.fromhex(DIE_ENTRY)[9:]
+        folder.says("show --report -", 1, f"standard input, byte {byte}: report entry: {words}", "", entry)
+    folder.says("show die.str --report -", 1, 'structure "DIE" has no element 2 that is a box', given=bytes.fromhex("00000002" + DIE_ENTRY[8:]))
+
+
+def boxes_drawn(folder):
+    """A box is its outline in two pixels, in the colour of its layer, which is listed; one without extent is a cross."""
+    folder.put("die.str", bytes.fromhex(DIE))
+    root = picture_of(folder, "draw die.str")
+    outlines = [part.attrib for part in root if part.tag.endswith("polygon")]
+    folder.count.hold("boxes: outlines", [(part["fill"], part["stroke-width"]) for part in outlines], [("none", "2")] * 2)
+    folder.count.hold("boxes: points", [len(part["points"].split(" ")) for part in outlines], [5, 5])
+    folder.count.hold("boxes: layers", [part.text for part in root if part.tag.endswith("text")], ["layer 235"])
+    folder.put("flat.str", bytes.fromhex(DIE_FRONT) + struct.pack(">10i", *[5, 7] * 5) + bytes.fromhex("0004110000040700"))
+    crossed = [part.attrib["stroke"] for part in picture_of(folder, "draw flat.str") if part.tag.endswith("path")]
+    folder.count.hold("boxes: a cross, and that of the origin", crossed, [outlines[0]["stroke"], "#777"])
+
+
+def boxes_refused(folder):
+    """A box's refusals with the corner at fault; a coordinate's comes before a property's."""
+    for k, corner in enumerate(("first corner, x,", "first corner, y,", "second corner, x,", "second corner, y,")):
+        values = ["0@1"] * k + ["0.25@1"] * (4 - k)
+        folder.put("off.cell", 'cell "A"\n' + box_text(" ".join(values[:2]), " ".join(values[2:])))
+        folder.says("write off.cell --policy strict --unit 1 -o x", 1, "refusal 18, block 1 (element 0, a box): a value is off the grid and the policy is strict\n"
+                    f"ravenvanity: looked at again, outside the proof: {corner} is 0.25@1.0, p 0.25, p / d 0.25")
+    for length, coordinate, status, error in ((65530, "0@1", 0, ""), (65531, "0@1", 1, "refusal 10, block 1 (element 0, a box)"), (65531, "0.25@1", 1, "refusal 18, block 1")):
+        folder.put("off.cell", 'cell "A"\n' + box_text("0@1 0@1", f"9@1 {coordinate}") + f'  property 1 "{length * "v"}"\n')
+        folder.says("write off.cell --policy strict --unit 1 -o off.str", status, error)
+    folder.put("off.cell", 'cell "A"\n' + box_text("0@0 0@1", "9@1 9@1").replace("1 0", "1 256"))
+    folder.says("write off.cell --policy strict --unit 1 -o x", 1, "refusal 9, block 1 (element 0, a box): a layer or type is above 255 (a text's type is not limited)\n"
+                "ravenvanity: looked at again, outside the proof: layer 1, type 256")
 
 
 def large(folder):
@@ -524,7 +604,7 @@ def main(paths):
     with tempfile.TemporaryDirectory() as path:
         folder = Folder(path, count)
         prepared(folder)
-        for part in (faults, ways, there_and_back, sines, shown, sides, greatest_held, written_sides, large, ends, replaced, surveys):
+        for part in (faults, ways, there_and_back, sines, shown, sides, greatest_held, written_sides, boxes, boxes_drawn, boxes_refused, large, ends, replaced, surveys):
             part(folder)
     progress_told(count)
     sides_shown(cases, count)

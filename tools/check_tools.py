@@ -49,6 +49,11 @@ BAD_TEXTS = (
     ('cell "A"\nreference "B"\n at 1@1 1@1\n column absent 1@1', 4, "VALUE@UNIT"), ('cell "A"\nnode 1 2\n property 1 x', 3, "string"),
     ('cell "A"\nreference "B" 2 1\n at 1@1 1@1\n degrees 45', 2, "give it the lines"), ('cell "A"\nreference "B" 1 2\n at 1@1 1@1\n degrees nan', 2, "not finite"),
     ('cell "A"\nreference "B" 2 1\n at 1@1 1@1\n sine 1', 2, "stand together"), ('cell "A"\n' + "node 1 2\n" * 16384, 16385, "16,383 elements"),
+    ('cell "A"\nbox 1', 2, "takes 2"), ('cell "A"\nbox 1 2 3', 2, "takes 2"), ('cell "A"\nbox 65536 0', 2, "65535"), ('cell "A"\nbox 0 -1', 2, "65535"), ('cell "A"\nbox 1 2', 2, "this box has no `first` line"),
+    ('cell "A"\nbox 1 2\n first 0@1 0@1\nnode 1 2', 2, "this box has no `second` line"), ('cell "A"\nbox 1 2\n second 0@1 0@1', 2, "this box has no `first` line"),
+    ('cell "A"\nbox 1 2\n first 0@1 0@1\n first 0@1 0@1', 4, "a second `first` in one box"), ('cell "A"\nbox 1 2\n point 0@1 0@1', 3, "`point` is no line of a box"),
+    ('cell "A"\nbox 1 2\n at 0@1 0@1', 3, "`at` is no line of a box"), ('cell "A"\npolygon 1 2\n first 0@1 0@1', 3, "`first` is no line of a polygon"), ('cell "A"\nsecond 0@1 0@1', 2, "`second` before the first element"),
+    ('cell "A"\nbox 1 2\n first 0@1', 3, "takes 2"), ('cell "A"\nbox 1 2\n second absent', 3, "takes 2"), ('cell "A"\nbox 1 2\n second 0@1 absent', 3, "VALUE@UNIT"),
 )
 
 BAD_LIBRARIES = (
@@ -273,7 +278,7 @@ def bad_cases(count):
 def stored_files(count):
     """What the tools make is what the crates have."""
     made = {"crates/test_vectors/stdin": pack_cases.pack(pack_cases.all_cases())[0], "crates/test_conversions/stdin": conversions.records()}
-    made.update(computed_cases.made(*map(tool_calls.stored, ("cells", "libraries")))[0])
+    made.update(computed_cases.made(list(map(tool_calls.stored, pack_cases.NAMES)))[0])
     for path, data in made.items():
         count.made += 1
         if files.read_input(os.path.join(ROOT, path)) != data:

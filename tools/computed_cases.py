@@ -1,19 +1,20 @@
 """Makes the data of the crate `cases`, and the list of definitions that its tests open. A convenience, outside the proof.
 
-    python3 tools/computed_cases.py CELLS LIBRARIES
+    python3 tools/computed_cases.py CASES [CASES ...]
 
-Both are files of stored cases (tools/case_files.py): tools/stored/cells.txt.xz and tools/stored/libraries.txt.xz. It writes
-Cells.antt, Streams.antt and Libraries.antt in crates/cases/specs and Open.antt in crates/cases/proofs, all four or none.
+They are files of stored cases (tools/case_files.py), tools/stored/*.txt.xz, in any order. It writes Cells.antt, Streams.antt
+and Libraries.antt in crates/cases/specs and Open.antt in crates/cases/proofs, all four or none.
 
-Of CELLS it takes small cells that together have every element kind, policy, record, report field and refusal number, an
-array turned by an angle, and deviations above 0 and below under each policy as far as there are such (Cells.antt). The
-stored cases that end in 21 and 22 are large, so cells with shorter buffers stand in for them, with the answer that follows
-from the stored one. Two cells of document 01's rows are written here by hand. So are the streams (Streams.antt), but for
-some of the stored cells; what is read from them is the answer of tools/reading_model.py, and what that is written to the
-answer of tools/model.py.
-Of LIBRARIES it takes small libraries that together have every policy, with entries and without, odd and even names, no,
-one and more cells, entries of several cells and the reals 0.001 and 1e-9 in UNITS, and of every refusal the smallest, where
-those in a cell's elements count as one (Libraries.antt).
+Of the cells it takes small ones that together have every element kind, policy, record, report field and refusal number, an
+array turned by an angle, boxes whose second corner lies on each side of the first and whose entries stand for each of the
+four coordinates, and deviations above 0 and below under each policy as far as there are such; of a refusal one for each
+kind of element (Cells.antt). The stored cases that end in 21 and 22 are large, so cells with shorter buffers stand in for
+them, with the answer that follows from the stored one. Two cells of document 01's rows are written here by hand. So are the
+streams (Streams.antt), but for some of the stored cells; what is read from them is the answer of tools/reading_model.py, and
+what that is written to the answer of tools/model.py.
+Of the libraries it takes small ones that together have every policy, with entries and without, odd and even names, no, one
+and more cells, with a box and without, entries of several cells and the reals 0.001 and 1e-9 in UNITS, and of every refusal
+the smallest, where those in a cell's elements count as one (Libraries.antt).
 Open.antt opens every definition of the specs below `cases`.
 
 Exit status: 0 with the four files, 1 where a file cannot be read or written, 2 where it was called wrongly.
@@ -28,6 +29,7 @@ import model
 import reading_model
 from case_files import CELL, FRONT, LIBRARY, Case, read_cases
 from ravenvanity import files
+from ravenvanity import sheet as form
 
 ROOT = pathlib.Path(__file__).resolve().parent.parent
 OUTSIDE = model.NO_CELL            # the cell of a refusal outside a library's cells
@@ -48,6 +50,13 @@ def turned(block):
     n = struct.unpack(">H", block[1:3])[0]
     columns, rows, _, _, _, sine, cosine = struct.unpack(">IIBdddd", block[3 + n:44 + n])
     return columns * rows > 1 and sine != 0 and cosine != 0
+
+
+def box_lies(block):
+    """Of a box, whether its second corner's numbers are above the first's or below, in x and in y."""
+    e = form.read_element(block, (0, len(block)), 0)
+    x1, y1, x2, y2 = (c.value if c.kind == form.INTEGER else form.double_of(c.value) for c in (*e.first, *e.second))
+    return x1 < x2, x1 > x2, y1 < y2, y1 > y2
 
 
 def codes(stream):
@@ -71,24 +80,26 @@ class Vector:
         found = {("policy", policy)}
         for b in blocks(sheet)[1:]:
             found.add(("kind", b[0], policy))
-            if b[0] == 5 and turned(b):
+            if b[0] == form.REFERENCE and turned(b):
                 found.add(("turned", bool(self.lines[2:])))
+            if b[0] == form.BOX:
+                found.add(("box lies", *box_lies(b)))
         found |= {("record", c) for c in codes(bytes.fromhex(self.lines[1]))}
         for e in self.lines[2:]:
             e = bytes.fromhex(e)
             found |= {("field", e[5]), ("axis", e[6]), ("entry", e[4]), ("below", e[ERROR] >> 7, policy)}
+            if e[4] == form.BOX:
+                found |= {("box spot", e[6:9]), ("box count", e[9:13])}
         found.add(("entries", min(len(self.lines) - 2, 2)))
         return found
 
     def refused_kind(self):
-        """The kind of the refused block."""
+        """The kind of the refused block, 0 for the head; none where it is no kind."""
         block = int(self.fields[2])
         if block == 0:
             return 0
-        try:
-            return blocks(self.input[FRONT:])[block][:1]
-        except (struct.error, IndexError):
-            return None
+        kind = blocks(self.input[FRONT:])[block][0]
+        return kind if kind in form.FORMS else None
 
     def expected(self):
         f = self.fields
@@ -104,7 +115,7 @@ class Vector:
 
 
 def refusals(vectors):
-    """For each number the smallest cells, of as many kinds of block as there are."""
+    """For each number the smallest cell of each kind of block that there is, and three at least."""
     chosen = []
     for number in sorted({int(v.fields[1]) for v in vectors if v.fields[0] == "no"}):
         here = sorted((v for v in vectors if v.fields[:2] == ["no", str(number)]), key=lambda v: len(v.input))
@@ -113,7 +124,7 @@ def refusals(vectors):
             if v.refused_kind() not in seen:
                 seen.add(v.refused_kind())
                 first.append(v)
-        chosen += (first + [v for v in here if v not in first])[:3]
+        chosen += (first + [v for v in here if v not in first])[:max(3, len(first))]
     return chosen
 
 
@@ -162,15 +173,21 @@ def documents_array():
     return Vector(Case("the-array", CELL, b"\0" + struct.pack(">d", 1) + sheet, model.accepted_lines(stream, [entry], 2.5)))
 
 
-def stored(path, kind):
-    """The answered cases of a kind; an answer that is not the model's is not understood."""
-    cases = [case for case in read_cases(path) if case.job == kind.JOB and case.lines[0][:2] in ("ok", "no")]
+def stored(path):
+    """The answered cases of a file; an answer that is not the model's is not understood."""
+    cases = [case for case in read_cases(path) if case.lines[0][:2] in ("ok", "no")]
     for case in cases:
         if model.JOBS[case.job](case.given) != case.lines:
             raise called.Bad(f"{files.name_of(path)}: the answer of {case.name} is not that of model.py")
-    if not cases:
-        raise called.Bad(f"{files.name_of(path)}: there is no {kind.JOB} in it")
-    return [kind(case) for case in cases]
+    return cases
+
+
+def of_kind(kind, cases):
+    """The cells or the libraries, by their names, so that the order of the files does not matter."""
+    chosen = sorted((kind(case) for case in cases if case.job == kind.JOB), key=lambda v: v.name)
+    if not chosen:
+        raise called.Bad(f"there is no {kind.JOB} in what was read")
+    return chosen
 
 
 def listing(name, cells, kind="Case"):
@@ -202,6 +219,7 @@ class Library(Vector):
         report = [bytes.fromhex(e) for e in self.lines[2:]]
         return {("policy", self.input[0], bool(report)), ("cells", min(len(cells), 2)), ("length", len(name) % 2), ("zero", name[-1:] == b"\0"),
                 ("entries", tuple(sorted({e[3] for e in report}))), ("stamps", any(head[-24:])),
+                ("box", any(b[0] == form.BOX for cell in cells for b in blocks(cell)[1:])),
                 ("units", head[-32:-24] == struct.pack(">d", 0.001) and self.input[1:FRONT] == struct.pack(">d", 1e-9))}
 
     def fault(self):
@@ -260,6 +278,8 @@ ENDEL = empty(0x11)
 ONE, TWO, TOO_FINE = "4110000000000000", "4120000000000000", "41ffffffffffffff"
 ODD = struct.pack(">HBB", 5, 0x19, 6) + b"x"
 SQUARE = (0, 0, 4, 0, 4, 4, 0, 0)
+OBLONG = (0, 0, 4, 0, 4, 3, 0, 3, 0, 0)
+OTHER_WAY = (0, 0, 0, 3, 4, 3, 4, 0, 0, 0)
 OPEN = (0, 0, 4, 0, 4, 4, 0, 1)
 DRAWS, NO_RECORD, NOT_OF_GRAMMAR, NO_INSTANCE, NOT_WHOLE = None, reading_model.NO_RECORD, reading_model.NOT_OF_GRAMMAR, 11, 30
 
@@ -285,6 +305,7 @@ def shape(code, typecode, *rest, layer=1, type=2, tail=ENDEL):
 def boundary(points=SQUARE, **more): return shape(8, 0x0e, long(0x10, *points), **more)
 def path(*options, points=(0, 0, 5, 5), **more): return shape(9, 0x0e, *options, long(0x10, *points), **more)
 def node(points=(1, 2), **more): return shape(0x15, 0x2a, long(0x10, *points), **more)
+def box(points=OBLONG, **more): return shape(0x2d, 0x2e, long(0x10, *points), **more)
 def strans(*reals, bits_of=0): return bits(0x1a, bits_of) + b"".join(reals)
 def mag(v): return real(0x1b, v)
 def angle(v): return real(0x1c, v)
@@ -340,7 +361,7 @@ def grammar_streams():
         ("WIDTH in a boundary", cell(shape(8, 0x0e, long(0x0f, 7), long(0x10, 0, 0))), NOT_OF_GRAMMAR),
         ("a node", cell(node()), DRAWS),
         ("a node with DATATYPE", cell(shape(0x15, 0x0e, long(0x10, 0, 0))), NOT_OF_GRAMMAR),
-        ("a BOX", cell(shape(0x2d, 0x2e, long(0x10, 0, 0))), NO_RECORD),
+        ("a TEXTNODE", cell(shape(0x14, 0x16, long(0x10, 0, 0))), NO_RECORD),
         # two faults: the first in byte order counts
         ("no column, then a bad record", cell(aref(counts=(0, 3)), ODD), NO_INSTANCE),
         ("a bad record, then no column", cell(ODD, aref(counts=(0, 3))), NO_RECORD),
@@ -348,6 +369,29 @@ def grammar_streams():
         ("no column, and steps that are not whole", cell(aref(counts=(0, 2), points=(0, 0, 5, 0, 0, 9))), NO_INSTANCE),
         ("another STRANS bit, then no column", cell(text(transform=bits(0x1a, 4)), aref(counts=(0, 3))), NOT_OF_GRAMMAR),
         ("steps that are not whole, then a missing ENDEL", HEAD + aref(points=(0, 0, 5, 0, 0, 9))[:-4] + END, NOT_WHOLE),
+    ]
+
+
+def box_grammar_streams():
+    """The same of boxes; how many points they have, and where, is asked for a sheet alone."""
+    return [
+        ("a box", cell(box()), DRAWS),
+        ("a box with a property", cell(box(tail=owns(9, b"v\0") + ENDEL)), DRAWS),
+        ("a box of no points", cell(box(())), DRAWS),
+        ("a box of four points", cell(box(SQUARE)), DRAWS),
+        ("a box of six points", cell(box(OBLONG + (0, 0))), DRAWS),
+        ("a box the other way round", cell(box(OTHER_WAY)), DRAWS),
+        ("a box whose ends differ", cell(box(OBLONG[:8] + (0, 1))), DRAWS),
+        ("a box with DATATYPE", cell(shape(0x2d, 0x0e, long(0x10, *OBLONG))), NOT_OF_GRAMMAR),
+        ("a boundary with BOXTYPE", cell(shape(8, 0x2e, long(0x10, *SQUARE))), NOT_OF_GRAMMAR),
+        ("BOXTYPE before LAYER", cell(empty(0x2d) + word(0x2e, 2) + word(0x0d, 1) + long(0x10, *OBLONG) + ENDEL), NOT_OF_GRAMMAR),
+        ("XY before BOXTYPE", cell(empty(0x2d) + word(0x0d, 1) + long(0x10, *OBLONG) + word(0x2e, 2) + ENDEL), NOT_OF_GRAMMAR),
+        ("a box without XY", cell(shape(0x2d, 0x2e)), NOT_OF_GRAMMAR),
+        ("WIDTH in a box", cell(shape(0x2d, 0x2e, long(0x0f, 7), long(0x10, *OBLONG))), NOT_OF_GRAMMAR),
+        ("a BOX of another data type", cell(rec(0x2d, 2) + box()[4:]), NO_RECORD),
+        ("a BOX with data", cell(rec(0x2d, 0, b"\0\0") + box()[4:]), NO_RECORD),
+        ("a BOXTYPE of another data type", cell(empty(0x2d) + word(0x0d, 1) + bits(0x2e, 2) + long(0x10, *OBLONG) + ENDEL), NO_RECORD),
+        ("a BOXTYPE of four bytes", cell(empty(0x2d) + word(0x0d, 1) + word(0x2e, 0, 2) + long(0x10, *OBLONG) + ENDEL), NO_RECORD),
     ]
 
 
@@ -488,7 +532,31 @@ def sheet_streams():
         ("9, and a byte after ENDSTR", cell(boundary(layer=256)) + b"\0"),
         # all kinds
         ("a mixed cell", cell(boundary(), path(long(0x0f, 10)), text(transform=strans(bits_of=0x8000)), node(), sref(),
-                              aref(transform=strans(angle("425a000000000000"))), owned(owns(7, b"v\0")))),
+                              aref(transform=strans(angle("425a000000000000"))), owned(owns(7, b"v\0")), box())),
+    ]
+
+
+def box_sheet_streams():
+    """The same of boxes."""
+    last = 2**31 - 1
+    return [
+        ("box from top right", cell(box((4, 3, 0, 3, 0, 0, 4, 0, 4, 3)))),
+        ("box from bottom right", cell(box((4, 0, 0, 0, 0, 3, 4, 3, 4, 0)))),
+        ("box from top left", cell(box((0, 3, 4, 3, 4, 0, 0, 0, 0, 3)))),
+        ("box without width", cell(box((4, 0, 4, 0, 4, 3, 4, 3, 4, 0)))),
+        ("box without width, the other way round", cell(box((4, 0, 4, 3, 4, 3, 4, 0, 4, 0)))),
+        ("box of one point", cell(box((4, 3) * 5))),
+        ("box from end to end of 32 bits", cell(box((last, -last - 1, -last - 1, -last - 1, -last - 1, last, last, last, last, -last - 1)))),
+        ("box layer and type 255", cell(box(layer=255, type=255))),
+        ("box layer 256", cell(box(layer=256))),
+        ("box type 256", cell(box(type=256))),
+        ("box of three points", cell(box(OBLONG[:6]))),
+        *[(f"box with coordinate {k} of ten off by 1", cell(box(OBLONG[:k] + (OBLONG[k] + 1,) + OBLONG[k + 1:]))) for k in range(10)],
+        ("box with properties", cell(box(tail=owns(1, b"x\0") + owns(2, b"ab") + ENDEL))),
+        ("the second element is a box, the other way round", cell(boundary(), box(OTHER_WAY))),
+        ("9, then a box of four points", cell(box(SQUARE, layer=256))),
+        ("9 of the type, then a box the other way round", cell(box(OTHER_WAY, type=256))),
+        ("a box of four points, then 9", cell(box(SQUARE), boundary(layer=256))),
     ]
 
 
@@ -517,10 +585,10 @@ def stream_row(why, data):
 
 def streams_module(vectors):
     """The streams above, and those of small stored cells, each with what the model finds in it."""
-    by_hand = grammar_streams()
+    by_hand = grammar_streams() + box_grammar_streams()
     for why, data, fault in by_hand:
         assert reading_model.grammar_fault(data) == fault, why
-    rows = [(why, data) for why, data, _ in by_hand] + sheet_streams()
+    rows = [(why, data) for why, data, _ in by_hand] + sheet_streams() + box_sheet_streams()
     accepted_ones = sorted((v for v in vectors if v.fields[0] == "ok"), key=lambda v: len(v.lines[1]))
     rows += [(v.name, bytes.fromhex(v.lines[1])) for v in accepted_ones if len(v.lines[1]) <= 2 * LARGEST][::16]
     return len(rows), '''-- Streams with what is read from them: made by tools/computed_cases.py. Assumes nothing.
@@ -572,9 +640,10 @@ def open_module():
             + " ".join(names + [f"Ieee.{n}" for n in IEEE]) + "\nopened = tt\n")
 
 
-def made(cells_path, libraries_path):
+def made(paths):
     """({path below the root: bytes} of the four files, what was taken in words)"""
-    vectors, libraries = stored(cells_path, Vector), stored(libraries_path, Library)
+    cases = [case for path in paths for case in stored(path)]
+    vectors, libraries = of_kind(Vector, cases), of_kind(Library, cases)
     count, cells = cells_module(vectors)
     number, streams = streams_module(vectors)
     several, rest = libraries_module(libraries)
@@ -584,9 +653,9 @@ def made(cells_path, libraries_path):
 
 def main(words):
     called.no_option(words)
-    if len(words) != 2:
-        raise called.Wrong("it takes a file of cells and a file of libraries")
-    contents, taken = made(*words)
+    if not words:
+        raise called.Wrong("it takes files of cases")
+    contents, taken = made(words)
     files.write_all([(os.path.join(ROOT, path), content) for path, content in contents.items()])
     print(taken)
 

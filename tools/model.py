@@ -1,9 +1,9 @@
 #!/usr/bin/env python3
 """An independent model of the program `structure`, and of writing libraries, for stored results. A convenience, outside the proof.
 
-It follows document 01, requests 1 and 2 of document 02, and gdsr's write/mod.rs, validation.rs and conversion.rs, and shares
-no code with the proved writer. Products, quotients and differences are Python's, IEEE doubles; mul_add, rounding to whole
-numbers and eight-byte reals are worked out over exact fractions; one step is taken from bit patterns.
+It follows document 01, requests 1 to 3 of document 02, and gdsr's write/mod.rs, gds_box.rs, validation.rs and conversion.rs,
+and shares no code with the proved writer. Products, quotients and differences are Python's, IEEE doubles; mul_add, rounding
+to whole numbers and eight-byte reals are worked out over exact fractions; one step is taken from bit patterns.
 
     model.py CASES      compares the answers stored in a file of cases (tools/case_files.py) with the model's, and counts
     model.py            reads the program's input from standard input and prints the program's lines
@@ -211,13 +211,21 @@ def transform(e):
     return flags(0x1a, e.reflection << 15) + reals if reals or e.reflection else b""
 
 
+def outlined(e, c, points, code, type_code):
+    layer_and_type(e)
+    written = [c.point(p, POINT, k) for k, p in enumerate(points)]
+    need(e.kind == form.NODE or written[0] == written[-1], 20)
+    return record(code, 0) + words(0x0d, e.layer) + words(type_code, e.type) + xy(written)
+
+
 def shape(e, c):
     least, most, code, type_code = (4, 8191, 0x08, 0x0e) if e.kind == form.POLYGON else (1, 50, 0x15, 0x2a)
     need(least <= len(e.points) <= most, 8)
-    layer_and_type(e)
-    points = [c.point(p, POINT, k) for k, p in enumerate(e.points)]
-    need(e.kind == form.NODE or points[0] == points[-1], 20)
-    return record(code, 0) + words(0x0d, e.layer) + words(type_code, e.type) + xy(points)
+    return outlined(e, c, e.points, code, type_code)
+
+
+def box(e, c):
+    return outlined(e, c, form.box_points(e.first, e.second), 0x2d, 0x2e)
 
 
 def path(e, c):
@@ -274,7 +282,7 @@ def reference(e, c):
     return out + words(0x13, e.columns, e.rows) + xy(corners(e, c))
 
 
-WRITERS = {form.POLYGON: shape, form.PATH: path, form.TEXT: text, form.NODE: shape, form.REFERENCE: reference}
+WRITERS = {form.POLYGON: shape, form.PATH: path, form.TEXT: text, form.NODE: shape, form.REFERENCE: reference, form.BOX: box}
 
 
 # ---- the cell

@@ -22,7 +22,7 @@ import called
 import model
 from case_files import CELL, LIBRARY, Case
 from ravenvanity import sheet as form
-from ravenvanity.sheet import DOUBLE, INTEGER, NODE, NOTHING, POLYGON, TEXT, Coordinate, Property, bits_of
+from ravenvanity.sheet import BOX, DOUBLE, INTEGER, NODE, NOTHING, POLYGON, TEXT, Coordinate, Property, bits_of
 
 POLICIES = ("nearest", "floor", "ceiling", "strict")
 ZERO = [0] * 12
@@ -77,6 +77,10 @@ def array(columns=2, rows=2, column=at(10, 0), row=at(0, 10), **others):
     return reference(columns, rows, column=column, row=row, **others)
 
 
+def box(first=at(0, 0), second=at(30, 20), layer=1, type=2, properties=()):
+    return form.Box(BOX, layer, type, first, second, properties)
+
+
 def given(sheet, policy=0, d=1.0):
     return bytes([policy]) + struct.pack(">d", d) + sheet
 
@@ -89,7 +93,7 @@ def cell(*elements, policy=0, d=1.0, name=b"A", stamps=ZERO):
     return given(form.sheet_of_blocks(blocks(*elements, name=name, stamps=stamps)), policy, d)
 
 
-BAD_FORM = b"\6"
+BAD_FORM = b"\7"
 OFF_GRID = node([at(0.5, 0)])
 
 
@@ -155,7 +159,7 @@ def cuts(block, form_of):
 
 KINDS = (("polygon", polygon(properties=[Property(1, b"v")])), ("path", path(width=real(2.0), properties=[Property(1, b"v")])),
          ("text", text(properties=[Property(1, b"v")])), ("node", node(properties=[Property(1, b"v")])),
-         ("reference", array(properties=[Property(1, b"v")])))
+         ("reference", array(properties=[Property(1, b"v")])), ("box", box(properties=[Property(1, b"v")])))
 
 
 def lengths():
@@ -172,7 +176,7 @@ def lengths():
 
 
 def codes():
-    for kind in (0, 6, 17, 33, 49, 255):
+    for kind in (0, 7, 17, 33, 49, 255):
         yield f"element kind {kind}", cell(bytes([kind]) + form.element_bytes(node())[1:])
     for code in (0, 1, 2, 3, 254, 255):
         yield f"path type {code}", cell(path(path_type=code))
@@ -203,7 +207,9 @@ def coordinates():
         block[6:23] = mark
         yield f"an absent width whose byte {k} is not zero", cell(bytes(block))
     for name, element in (("point", node([(NOTHING, whole(0))])), ("point's y", node([(whole(0), NOTHING)])),
-                          ("text's origin", text(origin=(NOTHING, whole(0)))), ("reference's origin", reference(origin=(whole(0), NOTHING)))):
+                          ("text's origin", text(origin=(NOTHING, whole(0)))), ("reference's origin", reference(origin=(whole(0), NOTHING))),
+                          ("x of a box's first corner", box((NOTHING, whole(0)))), ("y of a box's first corner", box((whole(0), NOTHING))),
+                          ("x of a box's second corner", box(second=(NOTHING, whole(0)))), ("y of a box's second corner", box(second=(whole(0), NOTHING)))):
         yield f"an absent {name}", cell(element)
     for half in ((NOTHING, whole(0)), (whole(0), NOTHING)):
         yield "half a column spacing", cell(array(column=half))
@@ -275,7 +281,7 @@ def counts():
 
 
 def layers():
-    for name, make in (("polygon", polygon), ("path", path), ("node", node), ("text", text)):
+    for name, make in (("polygon", polygon), ("path", path), ("node", node), ("text", text), ("box", box)):
         for value in (0, 255, 256, 65535):
             yield f"a {name}'s layer {value}", cell(make(layer=value))
             yield f"a {name}'s type {value}", cell(make(type=value))
@@ -510,6 +516,93 @@ def array_sides():
     yield "an endpoint is infinitely far below by its distance alone", cell(array(4801, 1, origin=at(-1.2e308, 0), column=at(4.999e304, 0.0), row=GONE), d=1e305)
 
 
+# ---- boxes: document 02, request 3
+
+
+CORNERS = ("x1", "y1", "x2", "y2")
+BOX_FAULTS = {16: real(1.0, 0.0), 17: real(math.nan), 18: real(0.5), 19: real(1e10)}
+
+
+def box_of(**values):
+    """A box with these coordinates among x1, y1, x2 and y2; the others are 0."""
+    x1, y1, x2, y2 = (values.get(name, whole(0)) for name in CORNERS)
+    return box((x1, y1), (x2, y2))
+
+
+def boxes():
+    for first, second in (((0, 0), (30, 20)), ((30, 20), (0, 0)), ((30, 0), (0, 20)), ((0, 20), (30, 0)), ((1, 2), (0, 0)), ((-5, -7), (5, 7))):
+        yield f"a box from {first} to {second}, as they stand", cell(box(at(*first), at(*second)))
+    for why, second in (("width", at(5, 9)), ("height", at(9, 7)), ("width and height", at(5, 7))):
+        yield f"a box without {why}", cell(box(at(5, 7), second))
+    for policy, name in enumerate(POLICIES[:3]):
+        yield f"a box whose corners meet by rounding or do not, {name}", cell(box(at(4.625, 7.25), at(5.25, 6.75)), policy=policy)
+    yield "a box from end to end of 32 bits", cell(box(at(SMALL, BIG), at(BIG, SMALL)))
+    yield "each coordinate of its own kind and unit", cell(box((whole(7, 1e-9), real(0.25, 1e-6)), (real(3.0, 1e-9), whole(2, 1e-6))), d=1e-9)
+    yield "the same, the corners exchanged", cell(box((real(3.0, 1e-9), whole(2, 1e-6)), (whole(7, 1e-9), real(0.25, 1e-6))), d=1e-9)
+    yield "integers of a box in unit d pass though their products overflow", cell(
+        box((whole(BIG, 2.0**1000), whole(3, 2.0**1000)), (whole(-3, 2.0**1000), whole(SMALL, 2.0**1000))), d=2.0**1000)
+    yield "a box and the polygon of its points", cell(box(), polygon([at(0, 0), at(30, 0), at(30, 20), at(0, 20), at(0, 0)]))
+    yield "a box between others", cell(node(), box(layer=7), text(), box(at(-1, -1)), node())
+    yield "properties after a box", cell(box(properties=[Property(1, b"die"), Property(0, b""), Property(65535, b"even")]))
+
+
+def box_form():
+    block, corner = form.element_bytes(box()), form.point_bytes(at(0, 0))
+    for kind in (0, 1, 4, 7):
+        yield f"a box's bytes under kind {kind}", cell(bytes([kind]) + block[1:])
+    yield "a node's bytes under a box's kind", cell(b"\6" + form.element_bytes(node())[1:])
+    yield "a box with a point count", cell(block[:5] + b"\0\2" + block[5:])
+    for n in (1, 3, 5):
+        yield f"a box's block with {n} of two corners", cell(block[:5] + n * corner + b"\0\0")
+    for place, name in enumerate(CORNERS):
+        start = 5 + 17 * place
+        yield f"coordinate kind 3 in a box's {name}", cell(block[:start] + b"\3" + block[start + 1:])
+        yield f"a box's {name} with an upper byte that is not zero", cell(block[:start + 4] + b"\1" + block[start + 5:])
+    yield "a box's second corner is absent", cell(box(second=GONE))
+    yield "a box's 9 in block 1 before 5 in block 2", cell(box(layer=256), BAD_FORM)
+    yield "5 of a box's last byte before its 9", cell(form.element_bytes(box(layer=256, type=256)) + b"\0")
+
+
+def box_order():
+    for name in CORNERS:
+        for number, fault in BOX_FAULTS.items():
+            yield f"{number} of a box's {name}", cell(box_of(**{name: fault}), policy=3)
+    for before, name in zip(CORNERS, CORNERS[1:]):
+        for first, second in ((16, 18), (18, 16), (19, 17)):
+            yield f"{first} of a box's {before} before {second} of its {name}", cell(box_of(**{before: BOX_FAULTS[first], name: BOX_FAULTS[second]}), policy=3)
+    yield "19 of a box's y1 before 16 of its y2", cell(box_of(y1=BOX_FAULTS[19], y2=BOX_FAULTS[16]), policy=3)
+    yield "a box's layer and type are both above 255", cell(box(layer=256, type=256))
+    for number, fault in BOX_FAULTS.items():
+        yield f"9 of a box's layer before {number} of x1", cell(box((fault, whole(0)), layer=256), policy=3)
+        yield f"9 of a box's type before {number} of x1", cell(box((fault, whole(0)), type=256), policy=3)
+    for name, edge in (("x1", BIG), ("y2", SMALL)):
+        for x in (edge - 0.5, edge - 0.25, edge + 0.25, edge + 0.5):
+            yield f"a box's {name} {x!r}", cell(box_of(**{name: real(x)}))
+    for name in ("y1", "x2"):
+        for x in (3 + 2.0**-51, 3 + 2.0**-50):
+            yield f"a box's {name} {x!r}, strict", cell(box_of(**{name: real(x)}), policy=3)
+
+
+def box_report():
+    for name in CORNERS:
+        yield f"a box's {name} alone is off the grid", cell(box_of(**{name: real(2.25)}))
+        yield f"a box's {name} is an integer between grid lines", cell(box_of(**{name: whole(5, 0.75)}))
+    off = (2.125, 3.25, 4.75, 5.875)  # by 0.125 below, 0.25 below, 0.25 above, 0.125 above
+    for k, name in enumerate(CORNERS):
+        values = [*off[:k], 7.5, *off[k + 1:]]
+        yield f"all four of a box are off the grid, {name} farthest", cell(box_of(**dict(zip(CORNERS, map(real, values)))))
+    for before, name in zip(CORNERS, CORNERS[1:]):
+        for x, y in ((2.25, 2.75), (2.75, 2.25), (2.25, 2.75 - 2.0**-51)):
+            yield f"a box's {before} {x!r}, its {name} {y!r}", cell(box_of(**{before: real(x), name: real(y)}))
+    for policy, side in enumerate(POLICIES[:3]):
+        yield f"all four of a box are off the grid, {side}", cell(box(at(2.25, -2.25), at(2.75, -2.75)), policy=policy)
+        yield f"a box off the grid ends where it begins, {side}", cell(box(at(0.5, -0.5), at(9, 9)), policy=policy)
+    far = 1.7e308  # of d = 1e308: to 2, whose product overflows
+    yield "infinite above in x2, below in y2: the first stays", cell(box_of(x2=real(far), y2=real(-far)), d=1e308)
+    yield "a step from the grid does not count in a box", cell(box(at(3 + 2.0**-51, 0.25), at(5, 3 - 2.0**-51)))
+    yield "a box on the grid, one off it, a node off it", cell(box(), box_of(y2=real(0.375)), node([at(0.25, 0)]))
+
+
 # ---- arrays, the buffers, mixed cells
 
 
@@ -576,13 +669,15 @@ def any_point(r):
 
 def any_element(r):
     properties = [Property(r.randrange(128), r.randbytes(r.randrange(9))) for _ in range(r.choice((0, 0, 1, 2)))]
-    layer, kind = r.randrange(256), r.randrange(1, 6)
+    layer, kind = r.randrange(256), r.randrange(1, 7)
     if kind == form.POLYGON:
         points = [any_point(r) for _ in range(r.randrange(3, 8))]
         return polygon(points + points[:1], layer, r.randrange(256), properties)
     if kind == form.PATH:
         lengths = [any_coordinate(r) if r.random() < 0.6 else NOTHING for _ in range(3)]
         return path([any_point(r) for _ in range(r.randrange(2, 9))], layer, 7, r.choice((0, 1, 2, 255)), *lengths, properties)
+    if kind == form.BOX:
+        return box(any_point(r), any_point(r), layer, r.randrange(256), properties)
     turn = {"magnification": r.choice((1.0, 1.0, r.uniform(0.01, 99))), "degrees": r.choice((0.0, 90.0, r.uniform(-360, 360))),
             "reflection": r.randrange(2), "properties": properties, "origin": any_point(r)}
     if kind == form.TEXT:
@@ -774,8 +869,8 @@ def library_reports():
     yield "an entry of the last element of the last cell alone", library(sheet(node()), sheet(node(), node(), OFF_GRID))
     yield "cells with and without entries in turn", library(*[off(0.25 if k % 2 else 1.0) for k in range(9)])
     yield "document 01's array in cell 1", library(sheet(name=b"B"), sheet(array(4, 1, origin=at(0.5, 0.0), column=at(10.5, 0.0), row=GONE)))
-    yield "an entry of every kind, in five cells", library(*[sheet(element) for element in (
-        polygon([at(0.5, 0)] + SQUARE[1:3] + [at(0.5, 0)]), path(width=real(2.5)), text(origin=at(0, 0.25)), OFF_GRID, array(column=at(0.5, 0)))])
+    yield "an entry of every kind, in six cells", library(*[sheet(element) for element in (
+        polygon([at(0.5, 0)] + SQUARE[1:3] + [at(0.5, 0)]), path(width=real(2.5)), text(origin=at(0, 0.25)), OFF_GRID, array(column=at(0.5, 0)), box_of(y2=real(0.5)))])
 
 
 def library_sides():
@@ -784,6 +879,13 @@ def library_sides():
     yield "the greatest error in the first cell, below", library(off(2.375, 2.75), off(2.75), off(2.875))
     yield "the greatest error in the middle cell, below", library(off(2.75), off(2.875, 2.375, 2.75), off(2.75))
     yield "the greatest error in the last cell, below", library(off(2.75), sheet(), off(2.875, 2.375))
+
+
+def library_boxes():
+    yield "boxes in two cells", library(sheet(box(), box(at(1, 2), at(0, 0))), sheet(node(), box(properties=[Property(1, b"die")])))
+    yield "a box's entry in the last cell", library(sheet(box()), sheet(node(), box_of(x2=real(2.75))))
+    for number, element in ((5, b"\6"), (9, box(type=256)), (16, box_of(y1=BOX_FAULTS[16])), (19, box_of(y2=BOX_FAULTS[19]))):
+        yield f"{number} of a box in cell 1, block 2", library(sheet(box()), sheet(node(), element), NO_SHEET)
 
 
 def library_calls():
@@ -810,11 +912,12 @@ def library_mixed():
 
 
 GROUPS = (caller, pairs, lengths, codes, coordinates, stamps, names, counts, layers, strings, grids, transforms, turns, units, finite,
-          rounding, competing, ends, report, sides, greatest_below, infinite_sides, array_sides, arrays, buffers, mixed)
+          rounding, competing, ends, report, sides, greatest_below, infinite_sides, array_sides, boxes, box_form, box_order, box_report,
+          arrays, buffers, mixed)
 
 
 LIBRARY_GROUPS = (library_caller, library_pairs, library_front, library_stamps, library_units, library_names, library_faults,
-                  library_order, library_reports, library_sides, library_calls, library_many, library_mixed)
+                  library_order, library_reports, library_sides, library_boxes, library_calls, library_many, library_mixed)
 
 
 def cases():

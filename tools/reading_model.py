@@ -21,7 +21,8 @@ from ravenvanity import sheet as form
 from ravenvanity import show as stream
 
 NO_RECORD, NOT_OF_GRAMMAR = "noRecord", "notOfGrammar"
-KINDS = {"BOUNDARY": form.POLYGON, "NODE": form.NODE, "PATH": form.PATH, "TEXT": form.TEXT, "SREF": form.REFERENCE, "AREF": form.REFERENCE}
+KINDS = {"BOUNDARY": form.POLYGON, "NODE": form.NODE, "PATH": form.PATH, "TEXT": form.TEXT, "SREF": form.REFERENCE, "AREF": form.REFERENCE,
+         "BOX": form.BOX}
 COUNTS = {"BOUNDARY": (4, 8191), "PATH": (2, 8191), "NODE": (1, 50)}
 MOST_PROPERTIES, MOST_ELEMENTS = 65535, 16383
 ONE, ZERO = form.bits_of(1.0), form.bits_of(0.0)
@@ -88,6 +89,8 @@ def points_limit(kind, points):
         need(COUNTS[kind][0] <= len(points) <= COUNTS[kind][1], 8)
     if kind == "BOUNDARY":
         need(points[0] == points[-1], 20)
+    if kind == "BOX":  # how many points it has is no part of the grammar alone
+        need(len(points) == 5 and points == form.box_points(points[0], points[2]), NOT_OF_GRAMMAR)
 
 
 def limit(kind, name, data, place):
@@ -98,7 +101,7 @@ def limit(kind, name, data, place):
         need(model.stamped(struct.unpack(">12H", data)), 6)
     elif name in ("STRNAME", "SNAME"):
         need(model.is_name(dropped(data)), 7)
-    elif name in ("LAYER", "DATATYPE", "NODETYPE"):
+    elif name in ("LAYER", "DATATYPE", "NODETYPE", "BOXTYPE"):
         need(number(data) <= 255, 9)
     elif name == "PATHTYPE":
         need(number(data) <= 2, NOT_OF_GRAMMAR)
@@ -222,6 +225,8 @@ def element(kind, found):
     if kind in ("BOUNDARY", "NODE"):
         kind_of_type = "DATATYPE" if kind == "BOUNDARY" else "NODETYPE"
         return form.Shape(KINDS[kind], number(found["LAYER"]), number(found[kind_of_type]), points, properties)
+    if kind == "BOX":
+        return form.Box(form.BOX, number(found["LAYER"]), number(found["BOXTYPE"]), points[0], points[2], properties)
     if kind == "PATH":
         path_type = form.NO_PATH_TYPE if found["PATHTYPE"] is None else number(found["PATHTYPE"])
         lengths = [length(found[name]) for name in ("WIDTH", "BGNEXTN", "ENDEXTN")]

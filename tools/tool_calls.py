@@ -10,8 +10,8 @@ HERE = os.path.dirname(os.path.abspath(__file__))
 HELP = "--help"
 # the words of wrong uses (status 2), then those that name a bad file (status 1); {names} are files and folders of `things`
 CALLS = {
-    "computed_cases.py": (("", "{cells}", "{cells} {libraries} x", "-x {libraries}"),
-                          ("{gone} {libraries}", "{cells} {gone}", "{cells} {folder}", "{empty} {libraries}", "{cells} {noise}", "{libraries} {cells}", "{cells} {page}")),
+    "computed_cases.py": (("", "-x {libraries}"),
+                          ("{cells}", "{gone} {libraries}", "{cells} {gone}", "{cells} {folder}", "{empty} {libraries}", "{cells} {noise}", "{libraries} {cells} x", "{cells} {page}")),
     "conversions.py": (("texts", "text text", "-x"), ()),
     "own_cases.py": (("x", "-x"), ()),
     "pack_cases.py": (("", "-o", "-o {kept}", "{cells} -o", "-x {cells}", "--all {cells}", "-o {kept} -o {kept} {cells}"),

@@ -1,6 +1,6 @@
-// Writes document 01's array, into buffers of its own, then a cell of polygons, a path and a text, then a library: makes the
-// sheet, writes, and reads the report. Tells refusals in words. Then asks where a length that is known within bounds may come to
-// lie, and how many places of a row a pitch disturbs.
+// Writes document 01's array, into buffers of its own, then a cell of polygons, a path, a text and a box, then a library: makes
+// the sheet, writes, and reads the report. Tells refusals in words. Then asks where a length that is known within bounds may come
+// to lie, and how many places of a row a pitch disturbs.
 #include "ravenvanity.h"
 #include "ravenvanity_report.h"
 #include "ravenvanity_sheet.h"
@@ -19,7 +19,7 @@ static void add_array(struct ravenvanity_sheet *sheet) {
     ravenvanity_add_reference(sheet, array);
 }
 
-// Polygons and a text in micrometres, a path in nanometres.
+// Polygons, a text and a box, the die's area, in micrometres, a path in nanometres.
 static void add_shapes(struct ravenvanity_sheet *sheet) {
     static const double squares[][8] = {{0, 0, 2, 0, 2, 2, 0, 2}, {3, 0, 5.0004, 0, 5.0004, 2, 3, 2}};
     for (size_t k = 0; k < sizeof squares / sizeof squares[0]; k++)
@@ -36,6 +36,8 @@ static void add_shapes(struct ravenvanity_sheet *sheet) {
     text.horizontal = RAVENVANITY_CENTRE;
     ravenvanity_add_text(sheet, text);
     ravenvanity_add_property(sheet, 1, "power");
+
+    ravenvanity_add_box(sheet, 235, 0, ravenvanity_double_xy(0, 0, 1e-6), ravenvanity_double_xy(6.0002, 4, 1e-6));
 }
 
 static struct ravenvanity_sheet finished(struct ravenvanity_sheet sheet) {

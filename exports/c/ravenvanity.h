@@ -1,8 +1,8 @@
 /* The proved GDSII writer of cells and libraries, lengths within bounds, and the pitch survey: document 01 has the cell
- * sheet, the refusals and the report entry, document 02 the library sheet, the sign of an entry's error, the bounds and the
- * survey (its requests 1, 2, 11 and 12). docs/FORMAT.md has both sheets, what is written and the report entries byte by byte.
- * ravenvanity_sheet.h makes sheets, ravenvanity_write.h takes the memory for what is written, and ravenvanity_report.h reads
- * reports and tells refusals in words; none of the three is proved.
+ * sheet, the refusals and the report entry, document 02 the library sheet, the sign of an entry's error, boxes, the bounds and
+ * the survey (its requests 1, 2, 3, 11 and 12). docs/FORMAT.md has both sheets, what is written and the report entries byte by
+ * byte. ravenvanity_sheet.h makes sheets, ravenvanity_write.h takes the memory for what is written, and ravenvanity_report.h
+ * reads reports and tells refusals in words; none of the three is proved.
  *
  * No pointer may be NULL, not even with length 0; the sheet, the two buffers and the answers must not overlap.
  * Nothing else is asked of a caller: every sheet, number and length has an answer. Nothing is kept between calls, no
@@ -78,7 +78,8 @@ enum ravenvanity_kind {
     RAVENVANITY_KIND_PATH = 2,
     RAVENVANITY_KIND_TEXT = 3,
     RAVENVANITY_KIND_NODE = 4,
-    RAVENVANITY_KIND_REFERENCE = 5
+    RAVENVANITY_KIND_REFERENCE = 5,
+    RAVENVANITY_KIND_BOX = 6
 };
 
 /* What writing takes: a report of *entries * RAVENVANITY_ENTRY_LENGTH bytes and an output of *length are enough. */

@@ -105,8 +105,8 @@ struct ravenvanity_entry {
     uint8_t kind;      /* of enum ravenvanity_kind */
     uint8_t field;     /* of enum ravenvanity_field */
     uint8_t axis;      /* of enum ravenvanity_axis */
-    uint16_t place;    /* of a point its place in its list, from 0; else 0 */
-    uint32_t affected; /* how many values of the element count */
+    uint16_t place;    /* of a point its place in its list, of a box among its five points, from 0; else 0 */
+    uint32_t affected; /* how many values of the element count, those of a box's corners in each point where they stand */
     double physical;   /* p */
     int32_t database;  /* q */
     double error;      /* q * d - p with its sign: above 0 where the database value lies above; never 0, may be infinite */
@@ -119,6 +119,7 @@ static inline const char *ravenvanity_kind_name(uint8_t kind) {
     case RAVENVANITY_KIND_TEXT: return "text";
     case RAVENVANITY_KIND_NODE: return "node";
     case RAVENVANITY_KIND_REFERENCE: return "reference";
+    case RAVENVANITY_KIND_BOX: return "box";
     default: return "unknown kind";
     }
 }

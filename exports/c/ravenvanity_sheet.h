@@ -483,6 +483,17 @@ static inline void ravenvanity_add_node(struct ravenvanity_sheet *sheet, uint64_
     ravenvanity_add_shape(sheet, RAVENVANITY_KIND_NODE, layer, data_type, points);
 }
 
+/* The corners stay as they are given, and are not put in order: of (x1, y1) and (x2, y2) the points that are written are
+ * (x1, y1) (x2, y1) (x2, y2) (x1, y2) (x1, y1). */
+static inline void ravenvanity_add_box(struct ravenvanity_sheet *sheet, uint64_t layer, uint64_t box_type,
+                                       struct ravenvanity_point first, struct ravenvanity_point second) {
+    ravenvanity_start_element(sheet, RAVENVANITY_KIND_BOX);
+    ravenvanity_put_layer(sheet, layer, box_type);
+    ravenvanity_put_point(sheet, first);
+    ravenvanity_put_point(sheet, second);
+    ravenvanity_end_element(sheet);
+}
+
 static inline void ravenvanity_add_path(struct ravenvanity_sheet *sheet, struct ravenvanity_path path) {
     ravenvanity_start_element(sheet, RAVENVANITY_KIND_PATH);
     ravenvanity_put_layer(sheet, path.layer, path.data_type);

@@ -115,6 +115,17 @@ static void add_references(struct ravenvanity_sheet *sheet) {
     ravenvanity_add_reference(sheet, reference);
 }
 
+static void add_boxes(struct ravenvanity_sheet *sheet) {
+    ravenvanity_add_box(sheet, 235, 0, ravenvanity_integer_xy(0, 0, NM), ravenvanity_double_xy(5, 4, UM));
+
+    struct ravenvanity_point right = ravenvanity_xy(ravenvanity_double(1.5, UM), ravenvanity_integer(INT32_MAX, NM));
+    struct ravenvanity_point left = ravenvanity_xy(ravenvanity_integer(INT32_MIN, NM), ravenvanity_double(-0.25, UM));
+    ravenvanity_add_box(sheet, 65535, 1, right, left);
+    ravenvanity_add_property(sheet, 1, "die");
+    ravenvanity_add_property(sheet, 2, "area");
+    ravenvanity_add_box(sheet, 0, 65535, left, left);
+}
+
 static struct ravenvanity_sheet cell_sheet(void) {
     static const uint16_t stamps[12] = {2024, 2, 29, 12, 0, 1, 2024, 3, 1, 8, 30, 15};
     struct ravenvanity_sheet sheet = ravenvanity_new_sheet();
@@ -123,6 +134,7 @@ static struct ravenvanity_sheet cell_sheet(void) {
     add_paths(&sheet);
     add_texts(&sheet);
     add_references(&sheet);
+    add_boxes(&sheet);
     return sheet;
 }
 
@@ -247,10 +259,31 @@ static void test_counts(void) {
     }
 }
 
-static void expect_layer(const char *what, uint64_t layer, uint64_t data_type) {
+// The box's corners are a fault too, and come after.
+static void expect_layer(const char *what, uint64_t layer, uint64_t type) {
     struct ravenvanity_sheet sheet = started();
-    ravenvanity_add_node(&sheet, layer, data_type, ravenvanity_integers(ORIGIN, 1, NM));
+    ravenvanity_add_node(&sheet, layer, type, ravenvanity_integers(ORIGIN, 1, NM));
     expect(what, RAVENVANITY_FAULT_NUMBER, &sheet);
+    sheet = started();
+    ravenvanity_add_box(&sheet, layer, type, ravenvanity_no_spacing(), ravenvanity_no_spacing());
+    expect(what, RAVENVANITY_FAULT_NUMBER, &sheet);
+}
+
+static void expect_box(const char *what, enum ravenvanity_fault fault, struct ravenvanity_point first,
+                       struct ravenvanity_point second) {
+    struct ravenvanity_sheet sheet = started();
+    ravenvanity_add_box(&sheet, 1, 0, first, second);
+    expect(what, fault, &sheet);
+}
+
+// Each of a box's four coordinates in turn, among three that are no fault.
+static void expect_corner(const char *what, enum ravenvanity_fault fault, struct ravenvanity_coordinate coordinate) {
+    const struct ravenvanity_coordinate one = ravenvanity_integer(1, NM);
+    for (int k = 0; k < 4; k++) {
+        struct ravenvanity_coordinate four[4] = {one, one, one, one};
+        four[k] = coordinate;
+        expect_box(what, fault, ravenvanity_xy(four[0], four[1]), ravenvanity_xy(four[2], four[3]));
+    }
 }
 
 static void expect_reference(const char *what, enum ravenvanity_fault fault, struct ravenvanity_reference reference) {
@@ -331,11 +364,28 @@ static void test_codes(void) {
     expect_reference("coordinate kind 3", RAVENVANITY_FAULT_CODE, reference);
 }
 
+static void test_boxes(void) {
+    expect_corner("a corner at 2^31 - 1", RAVENVANITY_NO_FAULT, ravenvanity_integer(INT32_MAX, NM));
+    expect_corner("a corner at 2^31", RAVENVANITY_FAULT_NUMBER, ravenvanity_integer(INT64_C(1) << 31, NM));
+    expect_corner("a corner at -2^31", RAVENVANITY_NO_FAULT, ravenvanity_integer(INT32_MIN, NM));
+    expect_corner("a corner at -2^31 - 1", RAVENVANITY_FAULT_NUMBER, ravenvanity_integer(INT64_C(-2147483649), NM));
+    expect_corner("half a corner", RAVENVANITY_FAULT_ABSENT, ravenvanity_absent());
+    struct ravenvanity_coordinate unknown = ravenvanity_double(1, NM);
+    unknown.kind = (enum ravenvanity_coordinate_kind)3;
+    expect_corner("a corner of coordinate kind 3", RAVENVANITY_FAULT_CODE, unknown);
+    struct ravenvanity_point none = ravenvanity_no_spacing(), wide = ravenvanity_integer_xy(INT64_C(1) << 31, 0, NM);
+    expect_box("no first corner, and the second at 2^31", RAVENVANITY_FAULT_ABSENT, none, wide);
+    expect_box("the first corner at 2^31, and no second", RAVENVANITY_FAULT_NUMBER, wide, none);
+    expect_box("no second corner", RAVENVANITY_FAULT_ABSENT, ravenvanity_integer_xy(1, 1, NM), none);
+}
+
 static void test_turns(void) {
     struct ravenvanity_sheet sheet = ravenvanity_new_sheet();
     expect("nothing", RAVENVANITY_FAULT_TURN, &sheet);
     add_node(&sheet);
     expect("an element before its cell", RAVENVANITY_FAULT_TURN, &sheet);
+    add_boxes(&sheet);
+    expect("boxes before their cell", RAVENVANITY_FAULT_TURN, &sheet);
     sheet = started();
     ravenvanity_add_property(&sheet, 1, "");
     expect("a property before its element", RAVENVANITY_FAULT_TURN, &sheet);
@@ -415,6 +465,7 @@ int main(void) {
     test_absent();
     test_sines();
     test_codes();
+    test_boxes();
     test_turns();
     test_end();
     test_place();

@@ -1,5 +1,5 @@
-// A test of ravenvanity_write.h, and of the lines of ravenvanity_report.h. Prints nothing on standard output; status 1 where
-// something is not as it must be.
+// A test of ravenvanity_write.h, of the lines of ravenvanity_report.h, and of what boxes are written as. Prints nothing on standard
+// output; status 1 where something is not as it must be.
 #include "ravenvanity_report.h"
 #include "ravenvanity_sheet.h"
 #include <math.h>
@@ -54,8 +54,11 @@ static void test_entries(void) {
                (struct ravenvanity_entry){7, UINT32_MAX, 1, 0, 1, 65535, 1, -1.5, INT32_MIN, -0.5});
     test_entry("cell 0, element 2 (path): 0 values affected, worst begin extension: p nan, q 0, error inf above",
                (struct ravenvanity_entry){0, 2, 2, 2, 2, 0, 0, NAN, 0, INFINITY});
-    test_entry("element 0 (unknown kind): 0 values affected, worst unknown field unknown axis: p -0, q 0, error inf below",
-               (struct ravenvanity_entry){RAVENVANITY_NO_CELL, 0, 0, 9, 3, 1, 0, -0.0, 0, -INFINITY});
+    test_entry("element 0 (box): 10 values affected, worst point 2 y: p 42.5, q 45, error 2.5 above",
+               (struct ravenvanity_entry){RAVENVANITY_NO_CELL, 0, 6, 0, 1, 2, 10, 42.5, 45, 2.5});
+    for (uint8_t kind = 0; kind <= 7; kind += 7)
+        test_entry("element 0 (unknown kind): 0 values affected, worst unknown field unknown axis: p -0, q 0, error inf below",
+                   (struct ravenvanity_entry){RAVENVANITY_NO_CELL, 0, kind, 9, 3, 1, 0, -0.0, 0, -INFINITY});
 }
 
 static void test_side(const char *wanted, double error) {
@@ -239,6 +242,70 @@ static void test_memory(void) {
     memory_left = true;
 }
 
+// ---- boxes
+
+// A cell of one box: x and y of its first corner, and x and y of its second.
+static struct ravenvanity_written written_box(uint64_t layer, uint64_t box_type, const double corners[4]) {
+    struct ravenvanity_sheet sheet = ravenvanity_new_sheet();
+    ravenvanity_start_cell(&sheet, "A", NULL);
+    ravenvanity_add_box(&sheet, layer, box_type, ravenvanity_double_xy(corners[0], corners[1], 1),
+                        ravenvanity_double_xy(corners[2], corners[3], 1));
+    hold("a box's cell sheet", ravenvanity_finish(&sheet) == RAVENVANITY_NO_FAULT);
+    return written(ravenvanity_write_new_cell, sheet, RAVENVANITY_NEAREST);
+}
+
+// The second corner is left of the first and below it, and stays there.
+static void test_box_bytes(void) {
+    static const uint8_t wanted[] = {
+        0, 4, 0x2d, 0, 0, 6, 0x0d, 2, 0, 255, 0, 6, 0x2e, 2, 0, 255, 0, 44, 0x10, 3, // BOX, LAYER, BOXTYPE, XY
+        0, 0, 0, 1, 0, 0, 0, 2, 0, 0, 0, 0, 0, 0, 0, 2, 0, 0, 0, 0, 0, 0, 0, 0, 0, 0, 0, 1, 0, 0, 0, 0,
+        0, 0, 0, 1, 0, 0, 0, 2, 0, 4, 0x11, 0, 0, 4, 7, 0, // the first point once more, ENDEL, ENDSTR
+    };
+    const size_t head = 28 + 6; // BGNSTR, STRNAME
+    struct ravenvanity_written to = written_box(255, 255, (const double[]){1, 2, 0, 0});
+    hold("a box's bytes", to.length == head + sizeof wanted && memcmp(to.bytes + head, wanted, sizeof wanted) == 0);
+    hold("a box on the grid", to.entries == 0);
+    ravenvanity_free_written(&to);
+}
+
+static void test_box_entry(const char *wanted, const double corners[4]) {
+    struct ravenvanity_written to = written_box(1, 0, corners);
+    struct ravenvanity_entry entry;
+    size_t at = 0;
+    if (ravenvanity_next_entry(to.report, to.report_length, &at, &entry))
+        test_entry(wanted, entry);
+    else
+        hold(wanted, false);
+    ravenvanity_free_written(&to);
+}
+
+// Each coordinate counts in every point where it stands; the first of the greatest errors is told.
+static void test_box_entries(void) {
+    test_box_entry("element 0 (box): 3 values affected, worst point 0 x: p 1.5, q 2, error 0.5 above", (const double[]){1.5, 0, 0, 0});
+    test_box_entry("element 0 (box): 3 values affected, worst point 0 y: p 1.5, q 2, error 0.5 above", (const double[]){0, 1.5, 0, 0});
+    test_box_entry("element 0 (box): 2 values affected, worst point 1 x: p 1.5, q 2, error 0.5 above", (const double[]){0, 0, 1.5, 0});
+    test_box_entry("element 0 (box): 2 values affected, worst point 2 y: p 1.5, q 2, error 0.5 above", (const double[]){0, 0, 0, 1.5});
+    test_box_entry("element 0 (box): 5 values affected, worst point 0 y: p 1.25, q 1, error 0.25 below",
+                   (const double[]){0, 1.25, -1.25, 0});
+    test_box_entry("element 0 (box): 10 values affected, worst point 2 y: p 1.5, q 2, error 0.5 above",
+                   (const double[]){1.25, 1.25, 1.25, 1.5});
+}
+
+static void refused_box(const char *what, struct ravenvanity_written to, uint8_t number) {
+    refused(what, to, number, RAVENVANITY_NO_CELL, 1);
+}
+
+// The layer, the type, and then x1, y1, x2, y2.
+static void test_box_refusals(void) {
+    const double none[4] = {NAN, NAN, NAN, NAN}, over = 2147483648;
+    refused_box("a box's layer 256", written_box(256, 0, none), 9);
+    refused_box("a box's type 256", written_box(0, 256, none), 9);
+    refused_box("x1 before y1", written_box(1, 0, (const double[]){over, NAN, 0, 0}), 19);
+    refused_box("y1 before x2", written_box(1, 0, (const double[]){over - 1, over, NAN, 0}), 19);
+    refused_box("x2 before y2", written_box(1, 0, (const double[]){0, over - 1, over, NAN}), 19);
+    refused_box("y2", written_box(1, 0, (const double[]){0, 0, over - 1, NAN}), 17);
+}
+
 int main(void) {
     test_entries();
     test_sides();
@@ -248,5 +315,8 @@ int main(void) {
     test_accepted();
     test_refused();
     test_memory();
+    test_box_bytes();
+    test_box_entries();
+    test_box_refusals();
     return missed != 0;
 }

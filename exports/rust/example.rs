@@ -1,5 +1,6 @@
-//! Writes document 01's array, then a cell of polygons, a path and a text, then a library, and reads the reports. Tells refusals in
-//! words. Then asks where a length that is known within bounds may come to lie, and how many places of a row a pitch disturbs.
+//! Writes document 01's array, then a cell of polygons, a path, a text and a box, then a library, and reads the reports. Tells
+//! refusals in words. Then asks where a length that is known within bounds may come to lie, and how many places of a row a pitch
+//! disturbs.
 mod ravenvanity;
 mod ravenvanity_report;
 mod ravenvanity_sheet;
@@ -19,7 +20,7 @@ fn array() -> Cell {
     cell
 }
 
-/// Polygons and a text in micrometres, a path in nanometres.
+/// Polygons, a text and a box, the die's area, in micrometres, a path in nanometres.
 fn shapes() -> Cell {
     let squares = [[[0.0, 0.0], [2.0, 0.0], [2.0, 2.0], [0.0, 2.0]], [[3.0, 0.0], [5.0004, 0.0], [5.0004, 2.0], [3.0, 2.0]]];
     let mut cell = Cell::new("SHAPES");
@@ -30,6 +31,7 @@ fn shapes() -> Cell {
     cell.add(Path { path_type: Some(PathType::Round), width: Some(Coordinate::double(0.1803, 1e-6)), ..wire });
     let text = Text::new(63, 0, "VDD", Point::double(1.0, 1.0, 1e-6));
     cell.add(Text { vertical: Vertical::Middle, horizontal: Horizontal::Centre, ..text }).property(1, "power");
+    cell.add(GdsBox::new(235, 0, Point::double(0.0, 0.0, 1e-6), Point::double(6.0002, 4.0, 1e-6)));
     cell
 }
 

@@ -1,8 +1,8 @@
 //! The proved GDSII writer of cells and libraries, lengths within bounds and the pitch survey, for Rust. Document 01 has the
-//! cell sheet, the refusals and the report entry, document 02 the library sheet, the sign of an entry's error, the bounds and the
-//! survey (its requests 1, 2, 11 and 12). docs/FORMAT.md has both sheets, what is written and the report entries byte by byte.
-//! `ravenvanity_sheet.rs` makes sheets, and `ravenvanity_report.rs` reads reports and tells refusals in words; neither is proved.
-//! The borrow checker sees to what the C interface asks: no null pointer and no overlap.
+//! cell sheet, the refusals and the report entry, document 02 the library sheet, the sign of an entry's error, boxes, the bounds
+//! and the survey (its requests 1, 2, 3, 11 and 12). docs/FORMAT.md has both sheets, what is written and the report entries
+//! byte by byte. `ravenvanity_sheet.rs` makes sheets, and `ravenvanity_report.rs` reads reports and tells refusals in words;
+//! neither is proved. The borrow checker sees to what the C interface asks: no null pointer and no overlap.
 #![allow(dead_code)] // a program uses what it needs of this
 
 /// The bytes of one report entry.
@@ -74,6 +74,7 @@ pub mod kind {
     pub const TEXT: u8 = 3;
     pub const NODE: u8 = 4;
     pub const REFERENCE: u8 = 5;
+    pub const BOX: u8 = 6;
 }
 
 /// A refusal's number, one of those in `refusal`, and the block it is about (0 if none).

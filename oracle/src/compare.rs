@@ -157,10 +157,10 @@ fn difference(wanted: &Answer, proved: &Answer, from: &str) -> String {
     text
 }
 
-/// What a case counts as, and the entries in which the two agree.
+/// What a case counts as, and the answer in which the two agree, where they are compared.
 struct Judged {
     kind: String,
-    entries: Vec<u8>,
+    answer: Option<Answer>,
 }
 
 /// The case, or the mismatch.
@@ -177,7 +177,7 @@ fn judge(given: &Input, any_pair: bool) -> Result<Judged, String> {
                 Answer::Refused { cell, block: k, .. } if (cell, k) < (of, block) => {
                     Err(format!("all before block {block} passes in gdsr; proved: {}", short(&proved)))
                 }
-                _ => Ok(Judged { kind: format!("not compared: {why}"), entries: vec![] }),
+                _ => Ok(Judged { kind: format!("not compared: {why}"), answer: None }),
             };
         }
     };
@@ -185,11 +185,12 @@ fn judge(given: &Input, any_pair: bool) -> Result<Judged, String> {
         return Err(difference(&wanted, &proved, from));
     }
     let place = if matches!(wanted, Answer::Refused { cell: Some(_), .. }) { " in a cell" } else { "" };
-    Ok(match wanted {
-        Answer::Refused { number, .. } => Judged { kind: format!("refused {number:2}{place}, {from}"), entries: vec![] },
-        Answer::Accepted { entries, .. } if entries.is_empty() => Judged { kind: "accepted, no entry".to_string(), entries },
-        Answer::Accepted { entries, .. } => Judged { kind: "accepted, with entries".to_string(), entries },
-    })
+    let kind = match &wanted {
+        Answer::Refused { number, .. } => format!("refused {number:2}{place}, {from}"),
+        Answer::Accepted { entries, .. } if entries.is_empty() => "accepted, no entry".to_string(),
+        Answer::Accepted { .. } => "accepted, with entries".to_string(),
+    };
+    Ok(Judged { kind, answer: Some(wanted) })
 }
 
 /// Whether gdsr, given the whole library, answers the same, where it can be given it; or the mismatch.
@@ -208,12 +209,26 @@ fn judge_whole(given: &Input) -> Result<Option<&'static str>, String> {
     }
 }
 
+/// The sheet of the cell that is given, or those of the library's cells.
+fn cell_sheets(given: &Input) -> Vec<&[u8]> {
+    match given.job {
+        Job::Cell => vec![&given.sheet],
+        Job::Library => sheet::blocks_of(&given.sheet).unwrap_or_default().into_iter().skip(1).collect(),
+    }
+}
+
+/// The kind bytes of a cell's blocks; 0 for the head.
+fn kinds_of(cell: &[u8]) -> Vec<u8> {
+    let blocks = sheet::blocks_of(cell).unwrap_or_default();
+    blocks.iter().enumerate().map(|(k, block)| if k == 0 { 0 } else { block[0] }).collect()
+}
+
 /// What the accepted cells or libraries hold.
 #[derive(Default)]
 struct Held {
     by_policy: [usize; 4],
     cells: usize,
-    by_kind: [usize; 6],
+    by_kind: [usize; 7],
     arrays: usize,
     /// Entries whose q × d is below and above p, and how many of them have an infinite error.
     sides: [usize; 2],
@@ -223,13 +238,8 @@ struct Held {
 impl Held {
     fn add(&mut self, given: &Input, entries: &[u8]) {
         self.by_policy[usize::from(given.policy & 3)] += 1;
-        match given.job {
-            Job::Cell => self.add_cell(&given.sheet),
-            Job::Library => {
-                for block in sheet::blocks_of(&given.sheet).unwrap_or_default().iter().skip(1) {
-                    self.add_cell(block);
-                }
-            }
+        for cell in cell_sheets(given) {
+            self.add_cell(cell);
         }
         for entry in entries.chunks(given.job.entry_length()) {
             let (_, _, error) = side::fields(entry);
@@ -242,7 +252,7 @@ impl Held {
     fn add_cell(&mut self, given: &[u8]) {
         self.cells += 1;
         for block in sheet::blocks_of(given).unwrap_or_default().iter().skip(1) {
-            self.by_kind[usize::from(block[0]).min(5)] += 1;
+            self.by_kind[usize::from(block[0]).min(6)] += 1;
             let body = sheet::element_of(block).map(|element| element.body);
             self.arrays += usize::from(matches!(body, Some(sheet::Body::Reference { counts, .. }) if counts != [1, 1]));
         }
@@ -251,16 +261,48 @@ impl Held {
     fn print(&self, job: Job) {
         let [nearest, floor, ceiling, strict] = self.by_policy;
         println!("  accepted by policy: nearest {nearest}, floor {floor}, ceiling {ceiling}, strict {strict}");
-        let [_, polygons, paths, texts, nodes, references] = self.by_kind;
+        let [_, polygons, paths, texts, nodes, references, boxes] = self.by_kind;
         if job == Job::Library {
             println!("  in accepted libraries: {} cells", self.cells);
         }
         println!(
-            "  in accepted cells: {polygons} polygons, {paths} paths, {texts} texts, {nodes} nodes, {references} references, {} of them arrays",
+            "  in accepted cells: {polygons} polygons, {paths} paths, {texts} texts, {nodes} nodes, {boxes} boxes, {references} references, {} of them arrays",
             self.arrays
         );
         let ([below, above], [far_below, far_above]) = (self.sides, self.infinite);
         println!("  entries: {below} with q × d below p, {above} above; infinite of them {far_below} and {far_above}");
+    }
+}
+
+/// Cells with a block of kind 6, all of them and the accepted ones, and the refusals at such a block by their number.
+#[derive(Default)]
+struct Boxes {
+    cells: usize,
+    accepted: usize,
+    refused: BTreeMap<u8, usize>,
+}
+
+impl Boxes {
+    fn add(&mut self, given: &Input, answer: Option<&Answer>) {
+        let cells: Vec<Vec<u8>> = cell_sheets(given).into_iter().map(kinds_of).collect();
+        let with_box = cells.iter().filter(|kinds| kinds.contains(&6)).count();
+        self.cells += with_box;
+        match answer {
+            Some(Answer::Accepted { .. }) => self.accepted += with_box,
+            Some(Answer::Refused { number, cell, block }) => {
+                let kind = cells.get(cell.unwrap_or(0)).and_then(|kinds| kinds.get(*block));
+                if kind == Some(&6) {
+                    *self.refused.entry(*number).or_default() += 1;
+                }
+            }
+            None => {}
+        }
+    }
+
+    fn print(&self) {
+        println!("  cells with a box: {}, of them {} accepted", self.cells, self.accepted);
+        let refused: Vec<String> = self.refused.iter().map(|(number, count)| format!(", {count} by {number}")).collect();
+        println!("  refused at a box: {} in all{}", self.refused.values().sum::<usize>(), refused.concat());
     }
 }
 
@@ -271,6 +313,7 @@ struct Tally {
     /// Libraries that gdsr was given whole, too.
     whole: BTreeMap<&'static str, usize>,
     held: Held,
+    boxes: Boxes,
     mismatches: usize,
     damaged: usize,
     bytes: usize,
@@ -281,15 +324,16 @@ impl Tally {
     fn add(&mut self, given: &Input, any_pair: bool) -> Result<(), String> {
         self.damaged += usize::from(given.damaged);
         self.bytes += given.sheet.len();
-        let Judged { kind, entries } = judge(given, any_pair)?;
+        let Judged { kind, answer } = judge(given, any_pair)?;
         if given.job == Job::Library
             && let Some(what) = judge_whole(given)?
         {
             *self.whole.entry(what).or_default() += 1;
         }
-        if kind.starts_with("accepted") {
-            self.held.add(given, &entries);
+        if let Some(Answer::Accepted { entries, .. }) = &answer {
+            self.held.add(given, entries);
         }
+        self.boxes.add(given, answer.as_ref());
         *self.counts.entry(kind).or_default() += 1;
         Ok(())
     }
@@ -306,6 +350,7 @@ impl Tally {
             println!("  by gdsr as whole files, too: {} accepted, {} refused", of("accepted"), of("refused"));
         }
         self.held.print(job);
+        self.boxes.print();
         println!("  {} of the sheets were damaged; {} bytes of sheets in all", self.damaged, self.bytes);
     }
 }

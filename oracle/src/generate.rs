@@ -536,12 +536,43 @@ impl Maker<'_> {
         Body::Reference { name: self.name(), counts, turn, pair, origin, spacings }
     }
 
+    /// The same or a little beside, as a double: conversion may bring the two to one place.
+    fn beside(&mut self, coordinate: Coordinate) -> Coordinate {
+        let (value, unit) = match coordinate {
+            Coordinate::Integer { value, unit } => (f64::from(value), unit),
+            Coordinate::Double { value, unit } => (value, unit),
+        };
+        let part = if self.on_grid { 0.0 } else { self.random.pick(&[0.0, 0.0, 0.1, -0.1, 0.25, -0.25, 0.5]) };
+        let value = stepped(value + part * self.d / unit, self.random.pick(&[0, 0, 1, -1, 3]));
+        Coordinate::Double { value, unit }
+    }
+
+    /// Each coordinate of a corner by itself; or the other corner's, a little beside it, or mirrored, at times in both alike.
+    fn corners(&mut self) -> [Place; 2] {
+        let one = self.place();
+        let sort = self.random.below(6);
+        let sorts = [sort, if self.random.often(300) { sort } else { self.random.below(6) }];
+        let other = [0, 1].map(|axis| match sorts[axis] {
+            0 => one[axis],
+            1 => self.beside(one[axis]),
+            2 => mirrored(one[axis]),
+            _ => self.coordinate(),
+        });
+        if self.random.often(500) { [one, other] } else { [other, one] }
+    }
+
+    fn gds_box(&mut self) -> Body {
+        let [first, second] = self.corners();
+        Body::Box { layer: self.number(), box_type: self.number(), first, second }
+    }
+
     fn element(&mut self) -> Element {
-        let body = match self.random.below(6) {
+        let body = match self.random.below(7) {
             0 => self.shape(1),
             1 => self.path(),
             2 => self.text(),
             3 => self.shape(4),
+            4 => self.gds_box(),
             _ => self.reference(),
         };
         Element { body, properties: self.properties() }
@@ -662,11 +693,11 @@ fn encodable(random: &mut Random) -> f64 {
 fn damage(random: &mut Random, blocks: &mut Vec<Vec<u8>>) -> Vec<u8> {
     let k = random.below(blocks.len());
     let length = blocks[k].len();
-    match random.below(12) {
+    match random.below(13) {
         0 => blocks[k].push(random.next() as u8),
         1 => blocks[k].truncate(length - 1),
         2 => blocks[k].truncate(random.below(length)),
-        3 => blocks[k][0] = random.pick(&[0, 1, 2, 3, 4, 5, 6, 255]),
+        3 => blocks[k][0] = random.pick(&[0, 1, 2, 3, 4, 5, 6, 7, 255]),
         4 | 5 => blocks[k][random.below(length)] ^= 1 << random.below(8),
         6 => blocks[k][random.below(length)] = random.pick(&[0, 1, 2, 3, 127, 128, 255]),
         7 => {
@@ -677,9 +708,28 @@ fn damage(random: &mut Random, blocks: &mut Vec<Vec<u8>>) -> Vec<u8> {
             let other = blocks[random.below(blocks.len())].clone();
             blocks.push(other);
         }
+        10 => without_coordinate(random, &mut blocks[k]),
         _ => return damaged_bytes(random, sheet_of(blocks)),
     }
     sheet_of(blocks)
+}
+
+/// An absent coordinate in an element's points, origin or corners, where none may be absent; a head has none.
+fn without_coordinate(random: &mut Random, block: &mut [u8]) {
+    let two = |at: usize| usize::from(u16::from_be_bytes([block[at], block[at + 1]]));
+    let (first, count) = match block[0] {
+        1 | 4 => (7, 2 * two(5)),
+        2 => (59, 2 * two(57)),
+        3 => (24, 2),
+        5 => (44 + two(1), 2),
+        6 => (5, 4),
+        _ => return,
+    };
+    if count > 0 {
+        let at = first + 17 * random.below(count);
+        block[at] = 2;
+        block[at + 1..at + 17].fill(0);
+    }
 }
 
 fn damaged_bytes(random: &mut Random, mut sheet: Vec<u8>) -> Vec<u8> {

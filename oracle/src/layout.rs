@@ -51,6 +51,13 @@ pub fn small_polygon(random: &mut Random, coordinate: fn(&mut Random) -> Coordin
     polygon(closed(5, || coordinate(random)))
 }
 
+/// Its corners off the grid, the second anywhere beside the first.
+pub fn gds_box(random: &mut Random) -> Element {
+    let mut corner = || [off_grid(random), off_grid(random)];
+    let body = Body::Box { layer: 7, box_type: 8, first: corner(), second: corner() };
+    Element { body, properties: vec![] }
+}
+
 pub fn turned_array(random: &mut Random) -> Element {
     let angle = random.unit() * 3.0;
     let (sine, cosine) = angle.sin_cos();
@@ -79,12 +86,13 @@ fn path(random: &mut Random) -> Element {
 }
 
 pub fn mixed_element(random: &mut Random, index: usize) -> Element {
-    match index % 8 {
+    match index % 9 {
         0 => text(random),
         1 => turned_array(random),
         2 | 3 => path(random),
         4 => small_polygon(random, off_grid),
-        5 => polygon(closed(120, || integer(random))),
+        5 => gds_box(random),
+        6 => polygon(closed(120, || integer(random))),
         _ => polygon(closed(120, || off_grid(random))),
     }
 }

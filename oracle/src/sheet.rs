@@ -50,6 +50,12 @@ pub enum Body {
         origin: Place,
         spacings: [Option<Place>; 2],
     },
+    Box {
+        layer: u16,
+        box_type: u16,
+        first: Place,
+        second: Place,
+    },
 }
 
 #[derive(Clone, Copy, Debug)]
@@ -117,10 +123,15 @@ fn put_points(block: &mut Vec<u8>, points: &[Place]) {
     }
 }
 
+fn put_doubles(block: &mut Vec<u8>, doubles: [f64; 2]) {
+    for number in doubles {
+        block.extend(number.to_bits().to_be_bytes());
+    }
+}
+
 fn put_turn(block: &mut Vec<u8>, turn: &Turn) {
     block.push(u8::from(turn.reflection));
-    block.extend(turn.magnification.to_bits().to_be_bytes());
-    block.extend(turn.degrees.to_bits().to_be_bytes());
+    put_doubles(block, [turn.magnification, turn.degrees]);
 }
 
 fn put_stamps(block: &mut Vec<u8>, stamps: &[u16; 12]) {
@@ -144,50 +155,55 @@ pub fn library_head_block(head: &LibraryHead) -> Vec<u8> {
     block
 }
 
-pub fn element_block(element: &Element) -> Vec<u8> {
-    let mut block = Vec::new();
-    match &element.body {
+/// The kind byte, the layer and the type.
+fn put_kind(block: &mut Vec<u8>, kind: u8, layer: u16, data_type: u16) {
+    block.push(kind);
+    block.extend(layer.to_be_bytes());
+    block.extend(data_type.to_be_bytes());
+}
+
+fn put_body(block: &mut Vec<u8>, body: &Body) {
+    match body {
         Body::Shape { kind, layer, data_type, points } => {
-            block.push(*kind);
-            block.extend(layer.to_be_bytes());
-            block.extend(data_type.to_be_bytes());
-            put_points(&mut block, points);
+            put_kind(block, *kind, *layer, *data_type);
+            put_points(block, points);
         }
         Body::Path { layer, data_type, path_type, lengths, points } => {
-            block.push(2);
-            block.extend(layer.to_be_bytes());
-            block.extend(data_type.to_be_bytes());
+            put_kind(block, 2, *layer, *data_type);
             block.push(path_type.unwrap_or(255));
             for length in lengths {
-                put_coordinate(&mut block, *length);
+                put_coordinate(block, *length);
             }
-            put_points(&mut block, points);
+            put_points(block, points);
         }
         Body::Text { layer, text_type, presentation, turn, origin, value } => {
-            block.push(3);
-            block.extend(layer.to_be_bytes());
-            block.extend(text_type.to_be_bytes());
+            put_kind(block, 3, *layer, *text_type);
             block.extend(presentation);
-            put_turn(&mut block, turn);
-            put_place(&mut block, Some(*origin));
-            put_string(&mut block, value);
+            put_turn(block, turn);
+            put_place(block, Some(*origin));
+            put_string(block, value);
         }
         Body::Reference { name, counts, turn, pair, origin, spacings } => {
             block.push(5);
-            put_string(&mut block, name);
-            for count in counts {
-                block.extend(count.to_be_bytes());
-            }
-            put_turn(&mut block, turn);
-            for number in pair {
-                block.extend(number.to_bits().to_be_bytes());
-            }
-            put_place(&mut block, Some(*origin));
-            for spacing in spacings {
-                put_place(&mut block, *spacing);
+            put_string(block, name);
+            block.extend(counts.map(u32::to_be_bytes).as_flattened());
+            put_turn(block, turn);
+            put_doubles(block, *pair);
+            for place in [Some(*origin), spacings[0], spacings[1]] {
+                put_place(block, place);
             }
         }
+        Body::Box { layer, box_type, first, second } => {
+            put_kind(block, 6, *layer, *box_type);
+            put_place(block, Some(*first));
+            put_place(block, Some(*second));
+        }
     }
+}
+
+pub fn element_block(element: &Element) -> Vec<u8> {
+    let mut block = Vec::new();
+    put_body(&mut block, &element.body);
     block.extend((element.properties.len() as u16).to_be_bytes());
     for property in &element.properties {
         block.extend(property.attribute.to_be_bytes());
@@ -369,6 +385,7 @@ fn body_of(reader: &mut Reader) -> Option<Body> {
             origin: reader.place()?,
             spacings: [reader.spacing()?, reader.spacing()?],
         }),
+        6 => Some(Body::Box { layer: reader.two()?, box_type: reader.two()?, first: reader.place()?, second: reader.place()? }),
         _ => None,
     }
 }

@@ -1,10 +1,10 @@
 //! Makes cells with every field as given. The public constructors close polygons and cut nodes to 50 points;
-//! readers of files and this bridge do not, so that the writer's own checks are reached.
+//! readers of files and this bridge do not, so that the writer's own checks are reached. Nor does it sort a box's corners.
 use crate::elements::path::PathType;
 use crate::elements::text::{HorizontalPresentation, VerticalPresentation};
 use crate::{
-    DataType, Element, GdsError, GdsTimestamps, Grid, Instance, Layer, Node, Path, Point, Polygon, Property, Radians, Reference,
-    Text, Unit,
+    DataType, Element, GdsBox, GdsError, GdsTimestamps, Grid, Instance, Layer, Node, Path, Point, Polygon, Property, Radians,
+    Reference, Text, Unit,
 };
 
 pub fn timestamps(numbers: &[u16; 12]) -> Result<GdsTimestamps, GdsError> {
@@ -27,6 +27,18 @@ pub fn polygon(layer: u16, data_type: u16, points: Vec<Point>, properties: Vec<P
 pub fn node(layer: u16, node_type: u16, points: Vec<Point>, properties: Vec<Property>) -> Element {
     let node = Node { points, layer: Layer::new(layer), node_type: DataType::new(node_type), ..Node::default() };
     with_properties(Element::Node(node), properties)
+}
+
+/// The first corner is `bottom_left`, wherever the second lies.
+pub fn gds_box(layer: u16, box_type: u16, [first, second]: [Point; 2], properties: Vec<Property>) -> Element {
+    let gds_box = GdsBox {
+        bottom_left: first,
+        top_right: second,
+        layer: Layer::new(layer),
+        box_type: DataType::new(box_type),
+        ..GdsBox::default()
+    };
+    with_properties(Element::Box(gds_box), properties)
 }
 
 /// `lengths` are width, begin and end extension.

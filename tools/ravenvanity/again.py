@@ -95,6 +95,9 @@ class Search:
                     self.coordinate(what, c)
         if e.kind == form.TEXT or e.kind == form.REFERENCE and not is_array(e.columns, e.rows):
             self.point("origin", e.origin)
+        elif e.kind == form.BOX:
+            self.point("first corner", e.first)
+            self.point("second corner", e.second)
         elif e.kind == form.REFERENCE:
             self.array(e)
         else:

@@ -7,7 +7,7 @@ from . import progress
 from . import sheet as form
 from .sheet import DOUBLE, INTEGER, NOTHING, Coordinate, Property, bits_of, double_of
 
-ELEMENTS = {"polygon": form.POLYGON, "path": form.PATH, "text": form.TEXT, "node": form.NODE, "reference": form.REFERENCE}
+ELEMENTS = {"polygon": form.POLYGON, "path": form.PATH, "text": form.TEXT, "node": form.NODE, "reference": form.REFERENCE, "box": form.BOX}
 WORDS = {kind: word for word, kind in ELEMENTS.items()}
 MAX_STRING = MAX_COUNT = 65535
 MAX_ELEMENTS = form.MAX_PAIRS - 1
@@ -155,7 +155,9 @@ DETAILS = {
     "path": {"pathtype": ("path_type", a_code(2)), "width": ("width", a_length), "begin": ("begin", a_length), "end": ("end", a_length)},
     "text": {**TURNED, "vertical": ("vertical", a_code(2)), "horizontal": ("horizontal", a_code(2))},
     "reference": {**TURNED, "column": ("column", a_spacing), "row": ("row", a_spacing), "sine": ("sine", a_double), "cosine": ("cosine", a_double)},
+    "box": {"first": ("first", a_point), "second": ("second", a_point)},
 }
+NEEDED = {"text": ("at",), "reference": ("at",), "box": ("first", "second")}  # lines that must be there
 LINES = {"point", "property", *(word for lines in DETAILS.values() for word in lines)}
 ONE, NOUGHT = bits_of(1.0), bits_of(0.0)
 ABOUT = {"reflection": 0, "magnification": ONE, "degrees": NOUGHT}
@@ -165,7 +167,10 @@ MISSING = {
     "path": {"path_type": form.NO_PATH_TYPE, "width": NOTHING, "begin": NOTHING, "end": NOTHING},
     "text": {**ABOUT, "vertical": 0, "horizontal": 0},
     "reference": {**ABOUT, "sine": NOUGHT, "cosine": ONE, "column": (NOTHING, NOTHING), "row": (NOTHING, NOTHING)},
+    "box": {},
 }
+MADE = {"polygon": form.Shape, "node": form.Shape, "path": form.Path, "text": form.Text, "reference": form.Reference, "box": form.Box}
+WITH_POINTS = ("polygon", "node", "path")
 
 
 class Element:
@@ -187,7 +192,7 @@ class Element:
 
     def take(self, tokens):
         word = tokens[0]
-        if word == "point" and self.word in ("polygon", "node", "path"):
+        if word == "point" and self.word in WITH_POINTS:
             self.points.append(a_point(tokens))
             if len(self.points) > MAX_COUNT:
                 raise Wrong(f"a sheet's element has at most {MAX_COUNT:,} points")
@@ -223,11 +228,12 @@ class Element:
         fields = {**MISSING[self.word], **self.fields, "properties": self.properties}
         if self.word == "reference":
             fields.update(self.turn(sines))
-        if self.word in ("text", "reference"):
-            if "origin" not in fields:
-                raise Bad(self.line, f"this {self.word} has no `at` line")
-            return (form.Text if self.word == "text" else form.Reference)(**fields)
-        return (form.Path if self.word == "path" else form.Shape)(**fields, points=self.points)
+        for word in NEEDED.get(self.word, ()):
+            if DETAILS[self.word][word][0] not in fields:
+                raise Bad(self.line, f"this {self.word} has no `{word}` line")
+        if self.word in WITH_POINTS:
+            fields["points"] = self.points
+        return MADE[self.word](**fields)
 
 
 def is_array(columns, rows):

@@ -3,11 +3,12 @@
 The y axis points upwards, and a grey cross marks the origin. Layers have colours, which the list beside the picture shows.
 A path has its width, which is magnified with its structure unless it is negative; path type 1 ends round, 2 square, all
 others flat; a path of width 0, or with none, is a thin line. Extensions of paths are not drawn. A text is its string at its
-place, in letters of one size, not turned; a node is a dot at each point; a polygon without extent is a cross. A called
-structure that is in the file is drawn in its place: reflected, magnified, turned, then moved; of two of one name the first
-is meant. Where it is not in the file, or calls itself, an instance is a cross with its name, and an array the outlines of
-its instances: each is the field that one column step and one row step span, with a dot at the instance's place. An array of
-one row or column has no second step, and its fields are square.
+place, in letters of one size, not turned; a node is a dot at each point; a box is its outline in a line of two pixels, not
+filled as polygons are; a polygon or a box without extent is a cross. A called structure that is in the file is drawn in its
+place: reflected, magnified, turned, then moved; of two of one name the first is meant. Where it is not in the file, or calls
+itself, an instance is a cross with its name, and an array the outlines of its instances: each is the field that one column
+step and one row step span, with a dot at the instance's place. An array of one row or column has no second step, and its
+fields are square.
 
 The picture's own numbers are pixels from its corner, so that a browser draws a plate of decimetres as well as a contact.
 The work is bounded: an array of more than 1,024 instances is one outline with its counts, a call more than 64 deep is a
@@ -29,7 +30,8 @@ MOST_INSTANCES, MOST_POINTS, MOST_DEEP, NEAREST, FARTHEST = 1024, 100000, 64, 1e
 SIZE, LETTER = 800, 20  # the longer side, and a letter, in pixels
 MOST_LISTED, MOST_LETTERS = 40, 40  # layers beside the picture; letters of words in it
 CAPS = {1: "round", 2: "square"}
-LAYERED = ("polygon", "path", "text", "node")
+SHAPES = {"BOUNDARY": "polygon", "NODE": "node", "BOX": "box"}
+LAYERED = ("path", "text", *SHAPES.values())
 NO_TURN = (1.0, 0.0, 0.0, 1.0, 0.0, 0.0)
 
 
@@ -125,7 +127,7 @@ class Drawing:
             presentation = number(found.get("PRESENTATION", b""))
             self.add("text", places, layer, string=found["STRING"].rstrip(b"\0"), vertical=presentation >> 2 & 3, horizontal=presentation & 3)
         else:
-            self.add("polygon" if kind == "BOUNDARY" else "node", places, layer)
+            self.add(SHAPES[kind], places, layer)
 
     def reference(self, kind, found, turn, above):
         if self.spent(1, "references"):
@@ -246,10 +248,12 @@ def word_lines(kind, spot, colour, others):
 def shape_lines(kind, spots, colour, others, pixels):
     joined = " ".join(map(pair, spots))
     width = others.get("width", 0.0) * pixels
-    if kind in ("polygon", "path") and len(set(map(pair, spots))) == 1 and (width <= 0.5 or others["cap"] == "butt"):
+    if kind in ("polygon", "box", "path") and len(set(map(pair, spots))) == 1 and (width <= 0.5 or others["cap"] == "butt"):
         yield cross(spots[0], LETTER / 4, colour)
     elif kind == "polygon":
         yield f'<polygon points="{joined}" fill="{colour}" fill-opacity="0.35" stroke="{colour}" stroke-width="1"/>'
+    elif kind == "box":
+        yield f'<polygon points="{joined}" fill="none" stroke="{colour}" stroke-width="2"/>'
     elif kind == "path":
         how = f'stroke-opacity="0.5" stroke-width="{width:.2f}" stroke-linecap="{others["cap"]}"' if width > 0.5 else 'stroke-width="1"'
         yield f'<polyline points="{joined}" fill="none" stroke="{colour}" {how}/>'

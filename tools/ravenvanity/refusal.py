@@ -17,7 +17,7 @@ TABLE = {
     7: (DESIGNER, "a structure name is not 1 to 32 of A-Z a-z 0-9 _ ? $: in block 0 the cell's own, else the called one",
         "in the head after 6; in a reference first after its 5", ANY),
     8: (DESIGNER, "the point count: a polygon has 4 to 8,191, a path 2 to 8,191, a node 1 to 50", "in a polygon, path or node first after its 5", ELEMENT),
-    9: (DESIGNER, "a layer or type is above 255 (a text's type is not limited)", "after 8; in a text first after its 5", ELEMENT),
+    9: (DESIGNER, "a layer or type is above 255 (a text's type is not limited)", "after 8; in a text or a box first after its 5", ELEMENT),
     10: (DESIGNER, "a string is too long: a text has at most 512 bytes, a property value at most 65,530",
          "in a text after 9; a property value last of all in its element", ELEMENT),
     11: (DESIGNER, "columns or rows are outside 1 to 32,767", "in a reference after 7", ELEMENT),

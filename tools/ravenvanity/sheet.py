@@ -1,4 +1,4 @@
-"""The cell sheet of document 01 ("Input") and the library sheet of document 02, request 1: their form, read and written. docs/FORMAT.md has them byte by byte.
+"""The cell sheet of document 01 ("Input") with the boxes of document 02, request 3, and the library sheet of its request 1: their form, read and written. docs/FORMAT.md has them byte by byte.
 
 A cell is a name, twelve stamp numbers and elements; a library is a name, a user unit, twelve stamp numbers and cells.
 Doubles are kept as 64-bit patterns, so that a NaN keeps its bits and a sheet that is read and written again is the same
@@ -10,7 +10,7 @@ from collections import namedtuple
 from . import progress
 
 INTEGER, DOUBLE, ABSENT = range(3)
-POLYGON, PATH, TEXT, NODE, REFERENCE = range(1, 6)
+POLYGON, PATH, TEXT, NODE, REFERENCE, BOX = range(1, 7)
 NO_PATH_TYPE = 255
 MAX_PAIRS = 16384
 LIBRARY_HEAD = 34  # bytes of a library's block 0 beside its name
@@ -23,6 +23,7 @@ Shape = namedtuple("Shape", "kind layer type points properties")
 Path = namedtuple("Path", "kind layer type path_type width begin end points properties")
 Text = namedtuple("Text", "kind layer type vertical horizontal reflection magnification degrees origin string properties")
 Reference = namedtuple("Reference", "kind name columns rows reflection magnification degrees sine cosine origin column row properties")
+Box = namedtuple("Box", "kind layer type first second properties")
 
 NOTHING = Coordinate(ABSENT, 0, 0)
 
@@ -41,6 +42,11 @@ def bits_of(x):
 
 def double_of(bits):
     return struct.unpack(">d", struct.pack(">Q", bits))[0]
+
+
+def box_points(first, second):
+    """The five points of a box, `GdsBox::points` in gdsr: each corner has x and y, and they are taken as they stand."""
+    return [first, (second[0], first[1]), second, (first[0], second[1]), first]
 
 
 # ---- reading
@@ -153,7 +159,11 @@ def reference_form(r, kind):
                      r.spacing("the column spacing"), r.spacing("the row spacing"), r.properties())
 
 
-FORMS = {POLYGON: shape_form, PATH: path_form, TEXT: text_form, NODE: shape_form, REFERENCE: reference_form}
+def box_form(r, kind):
+    return Box(kind, r.number(2, "the layer"), r.number(2, "the type"), r.point("the first corner"), r.point("the second corner"), r.properties())
+
+
+FORMS = {POLYGON: shape_form, PATH: path_form, TEXT: text_form, NODE: shape_form, REFERENCE: reference_form, BOX: box_form}
 
 
 def read_pairs(sheet):
@@ -250,6 +260,8 @@ def library_head_bytes(name, unit, stamps):
 def body_bytes(e):
     if e.kind in (POLYGON, NODE):
         return struct.pack(">BHH", e.kind, e.layer, e.type) + points_bytes(e.points)
+    if e.kind == BOX:
+        return struct.pack(">BHH", e.kind, e.layer, e.type) + point_bytes(e.first) + point_bytes(e.second)
     if e.kind == PATH:
         lengths = b"".join(map(coordinate_bytes, (e.width, e.begin, e.end)))
         return struct.pack(">BHHB", e.kind, e.layer, e.type, e.path_type) + lengths + points_bytes(e.points)

@@ -1,9 +1,10 @@
 """A GDSII structure or library file, and report entries, as readable text.
 
-A structure is read by the grammar of document 01 ("What a structure draws"); a library file is HEADER, BGNLIB, LIBNAME,
-UNITS, structures, ENDLIB. Each record gets a line: the byte where it starts, its name, and what it holds. Eight-byte
-reals are written as exact decimals, long ones of UNITS as the shortest decimal of the double. Zero bytes after ENDLIB are
-no damage: a line says how many. The lines that the program `structure` prints, and a stored library's, are read too.
+A structure is read by the grammar of document 01 ("What a structure draws") with the BOX of document 02, request 3; a library
+file is HEADER, BGNLIB, LIBNAME, UNITS, structures, ENDLIB. Each record gets a line: the byte where it starts, its name, and
+what it holds. Eight-byte reals are written as exact decimals, long ones of UNITS as the shortest decimal of the double. Zero
+bytes after ENDLIB are no damage: a line says how many. The lines that the program `structure` prints, and a stored
+library's, are read too.
 Of an entry's error the magnitude is told, and on which side of the physical value the database value lies: above or below.
 Entries, and a greatest error, that this writer never gives are turned back with their place.
 """
@@ -23,7 +24,7 @@ RECORDS = {
     0x0f: ("WIDTH", 3, 4), 0x10: ("XY", 3, -8), 0x11: ("ENDEL", 0, 0), 0x12: ("SNAME", 6, None), 0x13: ("COLROW", 2, 4),
     0x15: ("NODE", 0, 0), 0x16: ("TEXTTYPE", 2, 2), 0x17: ("PRESENTATION", 1, 2), 0x19: ("STRING", 6, None), 0x1a: ("STRANS", 1, 2),
     0x1b: ("MAG", 5, 8), 0x1c: ("ANGLE", 5, 8), 0x21: ("PATHTYPE", 2, 2), 0x2a: ("NODETYPE", 2, 2), 0x2b: ("PROPATTR", 2, 2),
-    0x2c: ("PROPVALUE", 6, None), 0x30: ("BGNEXTN", 3, 4), 0x31: ("ENDEXTN", 3, 4),
+    0x2c: ("PROPVALUE", 6, None), 0x2d: ("BOX", 0, 0), 0x2e: ("BOXTYPE", 2, 2), 0x30: ("BGNEXTN", 3, 4), 0x31: ("ENDEXTN", 3, 4),
 }
 # those that stand in a library file beside its structures'
 LIBRARY_RECORDS = {0x00: ("HEADER", 2, 2), 0x01: ("BGNLIB", 2, 24), 0x02: ("LIBNAME", 6, None), 0x03: ("UNITS", 5, 16), 0x04: ("ENDLIB", 0, 0)}
@@ -37,12 +38,15 @@ ELEMENTS = {
     "TEXT": ["LAYER", "TEXTTYPE", "PRESENTATION?", *TRANSFORM, "XY", "STRING"],
     "SREF": ["SNAME", *TRANSFORM, "XY"],
     "AREF": ["SNAME", *TRANSFORM, "COLROW", "XY"],
+    "BOX": ["LAYER", "BOXTYPE", "XY"],
 }
 POINTS = {"TEXT": 1, "SREF": 1, "AREF": 3}
-KINDS = {1: "polygon", 2: "path", 3: "text", 4: "node", 5: "reference"}
-KIND_OF = {"BOUNDARY": 1, "PATH": 2, "TEXT": 3, "NODE": 4, "SREF": 5, "AREF": 5}
+KINDS = {1: "polygon", 2: "path", 3: "text", 4: "node", 5: "reference", 6: "box"}
+KIND_OF = {"BOUNDARY": 1, "PATH": 2, "TEXT": 3, "NODE": 4, "SREF": 5, "AREF": 5, "BOX": 6}
 FIELDS = ("point", "width", "begin extension", "end extension", "origin", "turned column spacing", "turned row spacing",
           "column endpoint", "row endpoint")
+FIELDS_OF = {1: (0,), 2: (0, 1, 2, 3), 3: (4,), 4: (0,), 5: (4, 5, 6, 7, 8), 6: (0,)}  # of each kind
+BOX_SPOTS = ((0, 0), (0, 1), (1, 0), (2, 1))  # point and axis where a coordinate of a box's corners stands first
 AXES = ("x", "y", "")
 ENTRY, LIBRARY_ENTRY = 33, 37
 NO_SIGN = "; was this report made before errors had a sign?"
@@ -249,14 +253,21 @@ class Walk:
 # ---- report entries
 
 
-def impossible(kind, field, axis, p, q, error):
+def no_spot(kind, field, axis, place):
     """(byte of an entry, what this writer never has there), or None."""
     if kind not in KINDS:
         return 4, f"element kind {kind} is unknown"
-    if field >= len(FIELDS):
-        return 5, f"field {field} is unknown"
+    if field not in FIELDS_OF[kind]:
+        return 5, f"a {KINDS[kind]} has no field {field}"
     if axis >= len(AXES):
         return 6, f"axis {axis} is unknown"
+    if KINDS[kind] == "box" and (place, axis) not in BOX_SPOTS:
+        return 6, f"axis {axis} of point {place}; a box's entry is of point 0 x or y, point 1 x or point 2 y"
+    return None
+
+
+def no_deviation(p, q, error):
+    """The same of its values."""
     if not math.isfinite(p):
         return 13, f"p {p!r} is not finite"
     if not (error > 0 or error < 0):
@@ -272,7 +283,7 @@ def impossible(kind, field, axis, p, q, error):
 def entry_words(data, at, structure):
     """A cell's entry in words; it must be of an element that the structure has, where that is known."""
     index, kind, field, axis, place, count, p, q, error = struct.unpack(">IBBBHIdid", data)
-    fault = impossible(kind, field, axis, p, q, error)
+    fault = no_spot(kind, field, axis, place) or no_deviation(p, q, error)
     if fault:
         # in an entry of a library an index starts where a cell's has its kind
         hint = "; a library's report is shown with its file" if kind not in KINDS and not structure else ""

@@ -1,4 +1,4 @@
--- What is read from a stream with every kind is the cell by hand; and what a sheet buffer holds afterwards. Computed. Assumes nothing.
+-- What is read from a stream with every kind is the cell by hand; which record of a BOX is at fault first; and what a sheet buffer holds afterwards. Computed. Assumes nothing.
 use mathlib.Core.Path.{_≡_, refl, ap}
 use mathlib.Core.Bool.{Bool}
 use mathlib.Core.Option.{some}
@@ -12,14 +12,28 @@ use Rattle.stream.specs.Read.{mapOption, readStructure}
 use Rattle.cell.specs.Limits.{maxSheetLength}
 use Rattle.reading.specs.Limits.{sheetLimits}
 use Rattle.reading.specs.Cell.{cellRead}
-use Rattle.reading.specs.Read.{stopped, made, check, longEnough, readSheet, sheetAfter}
+use Rattle.reading.specs.Read.{stopped, made, check, longEnough, measureStructure, readSheet, sheetAfter}
 use Rattle.cases.specs.Case.{halved}
-use Rattle.cases.specs.Read.{stream, cell, bare, bareSheet}
+use Rattle.cases.specs.Read.{stream, cell, bare, bareSheet, turnedBox}
 use Rattle.cases.proofs.Open.{opened}
 
 pub cell-read : mapOption cellRead (accepted (readStructure sheetLimits stream)) ≡ some cell
 unfolding opened halved stream cell
 cell-read = refl
+
+-- ---- a BOX that no two corners give is refused by its first record at fault
+
+pub box-layer : measureStructure (turnedBox 256 255) ≡ stopped R.LayerOrType 1
+unfolding opened halved turnedBox
+box-layer = refl
+
+pub box-type : measureStructure (turnedBox 255 256) ≡ stopped R.LayerOrType 1
+unfolding opened halved turnedBox
+box-type = refl
+
+pub box-points : measureStructure (turnedBox 255 255) ≡ stopped R.NotStructure 1
+unfolding opened halved turnedBox
+box-points = refl
 
 -- ---- the sheet buffer: long enough, a byte short, and what it holds
 

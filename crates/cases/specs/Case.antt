@@ -1,9 +1,9 @@
 -- A cell with its answer, and that the definitions give it. Bytes are written as one number with their count, a double by its bits. Assumes nothing.
-use mathlib.Core.Bool.{Bool, true, false, _&&_}
+use mathlib.Core.Bool.{Bool, true, false, _&&_, cond}
 use mathlib.Core.Option.{Option, none, some}
 use mathlib.Core.List.{List, [], _∷_, _++_}
 use Prim.Native.Nat.{ℕ, zero, suc, _-_, _*_, _/_, _%_, _^_}
-use lib.Dec.{eqb}
+use lib.Dec.{leb, eqb}
 use lib.Ieee.{ofBits, toBits, binary64}
 use Rattle.big_endian.specs.Big.{bytesOf}
 use Rattle.conversion.specs.Entry.{reportBytes, entryLength}
@@ -27,10 +27,10 @@ pub record Case : Type 0 where
   pub report : ℕ
   pub expected : Expected
 
--- v as n bytes, by halves: a byte of a long number costs by the number's length
+-- v as n bytes, by halves where they are many: a byte of a long number costs by the number's length
 unfoldable pub halved : ℕ → ℕ → ℕ → List ℕ
 halved zero n v = bytesOf n v
-halved (suc k) n v = halved k (n - n / 2) (v / 256 ^ (n / 2)) ++ halved k (n / 2) (v % 256 ^ (n / 2))
+halved (suc k) n v = cond (leb n 128) (bytesOf n v) (halved k (n - n / 2) (v / 256 ^ (n / 2)) ++ halved k (n / 2) (v % 256 ^ (n / 2)))
 
 abbrev pub unpacked : ℕ → ℕ → List ℕ
 unpacked n v = halved 9 n v

@@ -24,7 +24,7 @@ two = unit 0x4000000000000000
 abbrev drawn : ℤ → ℤ → Point ℤ
 drawn x y = record { x = x; y = y }
 
--- as Read's stream has them: a polygon's, two paths', two texts', a node's, a reference's, an array's origin, the 1 × 1 array's
+-- as Read's stream has them: a polygon's, two paths', two texts', a node's, a reference's, an array's origin, the 1 × 1 array's, a box's
 unfoldable pub points : List (Point ℤ)
 points =
     drawn (pos 0) (pos 0) ∷ drawn (pos 4) (pos 0) ∷ drawn (pos 4) (negsuc 3) ∷ drawn (pos 0) (pos 0)
@@ -36,6 +36,7 @@ points =
     ∷ drawn (pos 12) (pos 13)
     ∷ drawn (pos 100) (pos 200)
     ∷ drawn (pos 1) (negsuc 0)
+    ∷ drawn (pos 3) (negsuc 4) ∷ drawn (negsuc 6) (negsuc 4) ∷ drawn (negsuc 6) (pos 11) ∷ drawn (pos 3) (pos 11) ∷ drawn (pos 3) (negsuc 4)
     ∷ []
 
 -- the physical values, by their bits
@@ -57,6 +58,7 @@ convertedEdges =
     ∷ edge 0x4028000000000000 0x402a000000000000
     ∷ edge 0x4059000000000000 0x4069000000000000
     ∷ edge 0x3ff0000000000000 0xbff0000000000000
+    ∷ edge 0x4008000000000000 0xc014000000000000 ∷ edge 0xc01c000000000000 0xc014000000000000 ∷ edge 0xc01c000000000000 0x4026000000000000 ∷ edge 0x4008000000000000 0x4026000000000000 ∷ edge 0x4008000000000000 0xc014000000000000
     ∷ []
 
 -- in the database unit 1 they pass, but for the array's
@@ -71,6 +73,7 @@ passedEdges =
     ∷ passes
     ∷ edge 0x4059000000000000 0x4069000000000000
     ∷ passes
+    ∷ passes ∷ passes ∷ passes ∷ passes ∷ passes
     ∷ []
 
 -- ---- a node of two points in the unit 1

@@ -6,7 +6,7 @@ use lib.IntN.{ℤ, pos, negsuc}
 use Rattle.big_endian.specs.Big.{bytesOf}
 use Rattle.refusal.specs.declared.Refusal.{Refusal}
 use Rattle.units.specs.Point.{Point}
-use Rattle.stream.specs.Record.{Rec, STRNAME, BOUNDARY, PATH, SREF, AREF, TEXT, NODE, LAYER, DATATYPE, NODETYPE, TEXTTYPE, PATHTYPE, PRESENTATION, SNAME, STRING, STRANS, MAG, ANGLE, WIDTH, PROPATTR, PROPVALUE}
+use Rattle.stream.specs.Record.{Rec, STRNAME, BOUNDARY, PATH, SREF, AREF, TEXT, NODE, BOX, LAYER, DATATYPE, NODETYPE, TEXTTYPE, BOXTYPE, PATHTYPE, PRESENTATION, SNAME, STRING, STRANS, MAG, ANGLE, WIDTH, PROPATTR, PROPVALUE}
 use Rattle.stream.specs.Records.{emptyRecord, wordRecord, bitsRecord, longRecord, realRecord, stringRecord, xyRecord, colrowRecord, stampsRecord}
 use Rattle.reading.specs.Limits.{sheetLimits}
 
@@ -39,6 +39,16 @@ points n = repeated n (record { x = pos 7; y = negsuc 7 })
 abbrev unclosed : List (Point ℤ)
 unclosed = points 3 ++ record { x = pos 7; y = pos 7 } ∷ []
 
+-- points by their coordinates in turn: x, y, x, y, ..
+abbrev placed : List ℕ → List (Point ℤ)
+placed [] = []
+placed (x ∷ []) = []
+placed (x ∷ y ∷ cs) = record { x = pos x; y = pos y } ∷ placed cs
+
+-- an XY of a BOX
+abbrev box : List ℕ → Option ℕ → Row
+box cs n = row BOX 0 (xyRecord (placed cs)) n
+
 abbrev real : ℕ → ℕ → Rec
 real c p = realRecord c (bytesOf 8 p)
 
@@ -54,6 +64,7 @@ rows =
     ∷ row NODE 16382 (emptyRecord NODE) none ∷ row NODE 16383 (emptyRecord NODE) (some 4)
     ∷ row SREF 16382 (emptyRecord SREF) none ∷ row SREF 16383 (emptyRecord SREF) (some 4)
     ∷ row AREF 16382 (emptyRecord AREF) none ∷ row AREF 16383 (emptyRecord AREF) (some 4)
+    ∷ row BOX 16382 (emptyRecord BOX) none ∷ row BOX 16383 (emptyRecord BOX) (some 4)
     -- 5: a 65,535th and a 65,536th property; its value is not asked
     ∷ row NODE 65534 (wordRecord PROPATTR 0) none ∷ row NODE 65535 (wordRecord PROPATTR 0) (some 5)
     ∷ row NODE 65535 (stringRecord PROPVALUE []) none
@@ -73,6 +84,8 @@ rows =
     ∷ row TEXT 0 (wordRecord LAYER 255) none ∷ row TEXT 0 (wordRecord LAYER 256) (some 9)
     ∷ row PATH 0 (wordRecord DATATYPE 255) none ∷ row PATH 0 (wordRecord DATATYPE 256) (some 9)
     ∷ row NODE 0 (wordRecord NODETYPE 255) none ∷ row NODE 0 (wordRecord NODETYPE 256) (some 9)
+    ∷ row BOX 0 (wordRecord LAYER 255) none ∷ row BOX 0 (wordRecord LAYER 256) (some 9)
+    ∷ row BOX 0 (wordRecord BOXTYPE 255) none ∷ row BOX 0 (wordRecord BOXTYPE 256) (some 9) ∷ row BOX 0 (wordRecord BOXTYPE 65535) (some 9)
     ∷ row TEXT 0 (wordRecord TEXTTYPE 65535) none
     -- 28: values that the sheet has no code for
     ∷ row PATH 0 (wordRecord PATHTYPE 0) none ∷ row PATH 0 (wordRecord PATHTYPE 2) none ∷ row PATH 0 (wordRecord PATHTYPE 3) (some 28) ∷ row PATH 0 (wordRecord PATHTYPE 255) (some 28)
@@ -80,6 +93,22 @@ rows =
     ∷ row TEXT 0 (bitsRecord PRESENTATION 4) none ∷ row TEXT 0 (bitsRecord PRESENTATION 6) none ∷ row TEXT 0 (bitsRecord PRESENTATION 7) (some 28)
     ∷ row TEXT 0 (bitsRecord PRESENTATION 8) none ∷ row TEXT 0 (bitsRecord PRESENTATION 10) none ∷ row TEXT 0 (bitsRecord PRESENTATION 11) (some 28)
     ∷ row TEXT 0 (bitsRecord PRESENTATION 12) (some 28) ∷ row TEXT 0 (bitsRecord PRESENTATION 16) (some 28)
+    -- 28: "a BOX that no two corners give". From each corner of a box one way round passes, with its first side along x, and the other does not
+    ∷ box (7 ∷ 2 ∷ 1 ∷ 2 ∷ 1 ∷ 5 ∷ 7 ∷ 5 ∷ 7 ∷ 2 ∷ []) none ∷ box (7 ∷ 2 ∷ 7 ∷ 5 ∷ 1 ∷ 5 ∷ 1 ∷ 2 ∷ 7 ∷ 2 ∷ []) (some 28)
+    ∷ box (1 ∷ 2 ∷ 7 ∷ 2 ∷ 7 ∷ 5 ∷ 1 ∷ 5 ∷ 1 ∷ 2 ∷ []) none ∷ box (1 ∷ 2 ∷ 1 ∷ 5 ∷ 7 ∷ 5 ∷ 7 ∷ 2 ∷ 1 ∷ 2 ∷ []) (some 28)
+    ∷ box (1 ∷ 5 ∷ 7 ∷ 5 ∷ 7 ∷ 2 ∷ 1 ∷ 2 ∷ 1 ∷ 5 ∷ []) none ∷ box (1 ∷ 5 ∷ 1 ∷ 2 ∷ 7 ∷ 2 ∷ 7 ∷ 5 ∷ 1 ∷ 5 ∷ []) (some 28)
+    ∷ box (7 ∷ 5 ∷ 1 ∷ 5 ∷ 1 ∷ 2 ∷ 7 ∷ 2 ∷ 7 ∷ 5 ∷ []) none ∷ box (7 ∷ 5 ∷ 7 ∷ 2 ∷ 1 ∷ 2 ∷ 1 ∷ 5 ∷ 7 ∷ 5 ∷ []) (some 28)
+    -- without width, without height and without both
+    ∷ box (7 ∷ 2 ∷ 7 ∷ 2 ∷ 7 ∷ 5 ∷ 7 ∷ 5 ∷ 7 ∷ 2 ∷ []) none ∷ box (7 ∷ 2 ∷ 1 ∷ 2 ∷ 1 ∷ 2 ∷ 7 ∷ 2 ∷ 7 ∷ 2 ∷ []) none ∷ row BOX 0 (xyRecord (points 5)) none
+    -- a point too few and too many, of a box and of one place; no point
+    ∷ box (7 ∷ 2 ∷ 1 ∷ 2 ∷ 1 ∷ 5 ∷ 7 ∷ 5 ∷ []) (some 28) ∷ box (7 ∷ 2 ∷ 1 ∷ 2 ∷ 1 ∷ 5 ∷ 7 ∷ 5 ∷ 7 ∷ 2 ∷ 7 ∷ 2 ∷ []) (some 28)
+    ∷ row BOX 0 (xyRecord (points 4)) (some 28) ∷ row BOX 0 (xyRecord (points 6)) (some 28) ∷ row BOX 0 (xyRecord []) (some 28)
+    -- one coordinate off in each of the five points; the last two are ends that differ, 28 and not 20
+    ∷ box (6 ∷ 2 ∷ 1 ∷ 2 ∷ 1 ∷ 5 ∷ 7 ∷ 5 ∷ 7 ∷ 2 ∷ []) (some 28) ∷ box (7 ∷ 3 ∷ 1 ∷ 2 ∷ 1 ∷ 5 ∷ 7 ∷ 5 ∷ 7 ∷ 2 ∷ []) (some 28)
+    ∷ box (7 ∷ 2 ∷ 0 ∷ 2 ∷ 1 ∷ 5 ∷ 7 ∷ 5 ∷ 7 ∷ 2 ∷ []) (some 28) ∷ box (7 ∷ 2 ∷ 1 ∷ 3 ∷ 1 ∷ 5 ∷ 7 ∷ 5 ∷ 7 ∷ 2 ∷ []) (some 28)
+    ∷ box (7 ∷ 2 ∷ 1 ∷ 2 ∷ 0 ∷ 5 ∷ 7 ∷ 5 ∷ 7 ∷ 2 ∷ []) (some 28) ∷ box (7 ∷ 2 ∷ 1 ∷ 2 ∷ 1 ∷ 6 ∷ 7 ∷ 5 ∷ 7 ∷ 2 ∷ []) (some 28)
+    ∷ box (7 ∷ 2 ∷ 1 ∷ 2 ∷ 1 ∷ 5 ∷ 6 ∷ 5 ∷ 7 ∷ 2 ∷ []) (some 28) ∷ box (7 ∷ 2 ∷ 1 ∷ 2 ∷ 1 ∷ 5 ∷ 7 ∷ 6 ∷ 7 ∷ 2 ∷ []) (some 28)
+    ∷ box (7 ∷ 2 ∷ 1 ∷ 2 ∷ 1 ∷ 5 ∷ 7 ∷ 5 ∷ 6 ∷ 2 ∷ []) (some 28) ∷ box (7 ∷ 2 ∷ 1 ∷ 2 ∷ 1 ∷ 5 ∷ 7 ∷ 5 ∷ 7 ∷ 3 ∷ []) (some 28)
     -- 10, of a string without its one final zero byte
     ∷ row TEXT 0 (stringRecord STRING (name 512)) none ∷ row TEXT 0 (stringRecord STRING (name 513 ++ 0 ∷ [])) (some 10) ∷ row TEXT 0 (stringRecord STRING (name 512 ++ 0 ∷ 0 ∷ [])) (some 10)
     ∷ row TEXT 0 (stringRecord PROPVALUE (name 65530)) none ∷ row TEXT 0 (stringRecord PROPVALUE (name 65531)) (some 10)

@@ -8,7 +8,7 @@ use lib.Ieee.{Float, binary64, ofBits}
 use Rattle.units.specs.declared.Unit.{Unit}
 use Rattle.units.specs.declared.Unit.the-variants as U
 use Rattle.units.specs.Point.{Point}
-use Rattle.sheet.specs.Element.{polygon, path, text, node, reference}
+use Rattle.sheet.specs.Element.{polygon, path, text, node, reference, box}
 use Rattle.sheet.specs.Cell.{Cell}
 use Rattle.cases.specs.Case.{unpacked}
 
@@ -24,8 +24,9 @@ stream =
     ++ (unpacked 44 0x00040a0000061206420000061a010000000c1b054080000000000000000c10030000000c0000000d00041100 {- SREF of "B", MAG 0.5 -}
     ++ (unpacked 68 0x00040b0000061206434300061a010000000c1c05421e0000000000000008130200020003001c100300000064000000c80000006e000000ca00000061000000b900041100 {- AREF of "CC", 2 x 3, ANGLE 30, corners (100, 200) (110, 202) (97, 185) -}
     ++ (unpacked 50 0x00040b000006120644000008130200010001001c100300000001ffffffff0000000500000005000000060000000600041100 {- AREF of "D", 1 x 1 -}
+    ++ (unpacked 76 0x00042d0000060d0200ff00062e0200ff002c100300000003fffffffbfffffff9fffffffbfffffff90000000b000000030000000b00000003fffffffb00062b02000700062c06760000041100 {- BOX, one property, from (3, -5) to the left and above -}
     ++ unpacked 4 0x00040700 {- ENDSTR -}
-    )))))))))
+    ))))))))))
 
 -- ---- the cell
 
@@ -78,6 +79,10 @@ cell = record {
         body = reference (record { name = 0x44 ∷ []; columns = 1; rows = 1; reflection = false; magnification = one; degrees = zero; sine = zero; cosine = one; origin = at (pos 1) (negsuc 0); columnSpacing = none; rowSpacing = none });
         properties = [];
       }
+      ∷ record {
+        body = box (record { layer = 255; boxtype = 255; first = at (pos 3) (negsuc 4); second = at (negsuc 6) (pos 11) });
+        properties = record { attribute = 7; value = 0x76 ∷ [] } ∷ [];
+      }
       ∷ [];
 }
 
@@ -89,3 +94,12 @@ bare = unpacked 38 0x001c0502000000000000000000000000000000000000000000000000000
 
 unfoldable pub bareSheet : List ℕ
 bareSheet = unpacked 40 0x000000010000000c0000001c00024142000000000000000000000000000000000000000000000000
+
+-- ---- a BOX whose points, (0, 0) (0, 1) (1, 1) (1, 0) (0, 0), no two corners give: its layer and its type
+
+unfoldable pub turnedBox : ℕ → ℕ → List ℕ
+turnedBox l t =
+    unpacked 34 0x001c0502000000000000000000000000000000000000000000000000000606064142 {- BGNSTR, STRNAME "AB" -}
+    ++ (unpacked 8 0x00042d0000060d02 ++ (unpacked 2 l ++ (unpacked 4 0x00062e02 ++ (unpacked 2 t
+    ++ unpacked 52 0x002c1003000000000000000000000000000000010000000100000001000000010000000000000000000000000004110000040700 {- XY, ENDEL, ENDSTR -}
+    ))))

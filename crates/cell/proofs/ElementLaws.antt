@@ -13,7 +13,8 @@ use lib.Ieee.{Float, binary64, fits}
 use lib.Ieee.Fits.{eq→eqb, and-l, and-r, and-i}
 use lib.Ieee.Positive.{positive}
 use Rattle.big_endian.specs.Big.{Bytes}
-use Rattle.parsing.specs.All.{Opt, absent, present}
+use Rattle.parsing.specs.All.{All, done, more, Opt, absent, present}
+use Rattle.units.specs.declared.Unit.{Unit}
 use Rattle.units.specs.Point.{Point}
 use Rattle.conversion.specs.declared.GdsRoundingPolicy.{GdsRoundingPolicy}
 use Rattle.conversion.specs.Made.{Made, pure, _>>=_}
@@ -23,7 +24,7 @@ use Rattle.conversion.proofs.ConvertLaws.{physical-fits}
 use Rattle.conversion.proofs.ArrayLaws.{AxisConverted, array-converted, instances-close, EndpointInRange}
 use Rattle.sheet.specs.Element.{maxPathType}
 use Rattle.sheet.specs.Element as S
-use Rattle.sheet.proofs.Fine.{FineShape, FinePath, FineText, FineReference, FineBody, FineElement}
+use Rattle.sheet.proofs.Fine.{FinePoint, FineShape, FinePath, FineText, FineReference, FineBox, FineBody, FineElement}
 use Rattle.sheet.proofs.Fine as F
 use Rattle.stream.specs.Strings.{padded}
 use Rattle.stream.specs.Structure as D
@@ -34,12 +35,13 @@ use Rattle.stream.proofs.Fit as Fit
 use Rattle.stream.proofs.StringLaws.{trimmed-padded, padded-even}
 use Rattle.cell.specs.Limits.{within, minPolygonPoints, minPathPoints, minNodePoints, maxPoints, maxNodePoints, maxLayer, maxDataType, maxStringLength, maxNameLength, maxColRow}
 use Rattle.cell.specs.Names.{isName, nameBytes}
-use Rattle.cell.specs.Write.{layerAndType, single, writeShape, writePolygon, writeNode, writePath, writeText, writeSref, writeAref, writeReference, writeBody, writeElement}
-use Rattle.cell.specs.Draws.{AlikeInstances, AlikeShape, AlikePath, AlikeText, AlikeSref, AlikeBody, AlikeElement}
+use Rattle.cell.specs.Write.{layerAndType, boxPoints, single, writeShape, writePolygon, writeNode, writePath, writeText, writeSref, writeAref, writeReference, writeBox, writeBody, writeElement}
+use Rattle.cell.specs.Draws.{AlikePoint, AlikeInstances, AlikeShape, AlikePath, AlikeText, AlikeSref, AlikeBox, AlikeBody, AlikeElement}
 use Rattle.cell.specs.Draws as W
 use Rattle.cell.specs.Draws.{Each}
 use Rattle.cell.specs.Edges.{edgesAt, arrayEdges, pointEdges, bodyEdges, bodyPoints}
 use Rattle.cell.proofs.Taken.{each-length, TakenPoint}
+use Rattle.cell.proofs.BoxLaws.{box-cornered}
 use Rattle.cell.proofs.PartLaws.{properties-alike, TransformFor, transform-alike, range-long, point-alike, points-alike, length-alike}
 
 -- ---- limits
@@ -262,6 +264,37 @@ module _ (policy : GdsRoundingPolicy) (d : Float) (fd : T (fits binary64 d)) (pd
       both : (c r : ℕ) → c ≡ 1 → r ≡ 1 → T (eqb c 1 && eqb r 1)
       both c r x y = and-i (eqb c 1) (eqb r 1) (eq→eqb x) (eq→eqb y)
 
+  -- ---- boxes
+
+  -- of the first point and the third
+  corners : {p m q : Point Unit} {s : List (Point Unit)} {a b c : Point ℤ} {t : List (Point ℤ)} → Each (AlikePoint policy d) (p ∷ m ∷ q ∷ s) (a ∷ b ∷ c ∷ t) → AlikePoint policy d p a × AlikePoint policy d q c
+  corners (W.more x (W.more y (W.more z h))) = (x, z)
+
+  record BoxWritten (e : S.Box) (w : D.Shape) : Type 0 where
+    alike : AlikeBox policy d e w
+    taken : Takes (pointEdges d (boxPoints (e .first) (e .second))) (w .points)
+    fit : FitShape w
+
+  box-written : (e : S.Box) (w : D.Shape) → FineBox e → Yields (writeBox policy d e) w → BoxWritten e w
+  unfolding writeBox
+  box-written e w h y =
+      let k1 = then-steps y in
+      let k2 = steps (k1 .then) in
+      let k3 = checked _ (k2 .then) in
+      let lt = layered (e .layer) (e .boxtype) (k1 .value) (k1 .first) in
+      let ps = points-alike policy d fd pd 0 (boxPoints (e .first) (e .second)) (k2 .value) fine (k2 .first) in
+      let c = box-cornered policy d (e .first) (e .second) (k2 .value) (k2 .first) in
+      let ends = corners (subst (λ (qs : List (Point ℤ)). Each (AlikePoint policy d) (boxPoints (e .first) (e .second)) qs) (c .points) (ps .alike)) in
+      subst (λ (z : D.Shape). BoxWritten e z) (made-yields (k3 .then))
+      (record {
+        alike = record { layer = refl; boxtype = refl; corner = c .corner; opposite = c .opposite; points = c .points; first = ends .0; second = ends .1 };
+        taken = ps .taken;
+        fit = record { layer = lt .layer; datatype = lt .datatype; points = record { each = ps .fit; count = subst (λ (n : ℕ). n ≤ maxPoints) (each-length (ps .alike)) (lit≤ tt) } };
+      })
+    where
+      fine : All FinePoint (boxPoints (e .first) (e .second))
+      fine = search (more, done, h .first, h .second) depth 9
+
   -- ---- every body
 
   pub record BodyWritten (e : S.Body) (w : D.SaidBody) : Type 0 where
@@ -304,6 +337,7 @@ module _ (policy : GdsRoundingPolicy) (d : Float) (fd : T (fits binary64 d)) (pd
   body-written (S.text e) w (F.text h) y = made-body D.text (S.text e) w (λ a k. let r = text-written e a h k in record { alike = W.text (r .alike); taken = W.more (r .taken) W.done; fit = Fit.text (r .fit) }) y
   body-written (S.node e) w (F.node h) y = made-body D.node (S.node e) w (λ a k. let r = node-written e a h k in record { alike = W.node (r .alike); taken = r .taken; fit = Fit.node (r .fit) }) y
   body-written (S.reference e) w (F.reference h) y = reference-written e w h y
+  body-written (S.box e) w (F.box h) y = made-body D.box (S.box e) w (λ a k. let r = box-written e a h k in record { alike = W.box (r .alike); taken = r .taken; fit = Fit.box (r .fit) }) y
 
   -- ---- every element
 

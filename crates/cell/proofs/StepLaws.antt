@@ -27,7 +27,7 @@ use Rattle.conversion.proofs.MadeLaws.{Yields, no-yield, made-yields, steps}
 use Rattle.conversion.proofs.ConvertLaws.{value-passed, ranged-is, physical-fits, physical-value-is}
 use Rattle.conversion.proofs.SideLaws.{AllTold, told-append, deviations-told}
 use Rattle.sheet.specs.Element as S
-use Rattle.cell.specs.Write.{layerAndType, writeProperties, encodable, writeReal, writeMagnification, writeAngle, writeTransform, single, writeShape, writePolygon, writeNode, writePath, writeText, writeSref, writeAref, writeReference, writeBody, writeElement}
+use Rattle.cell.specs.Write.{layerAndType, writeProperties, encodable, writeReal, writeMagnification, writeAngle, writeTransform, single, writeShape, writePolygon, writeNode, writePath, writeText, writeSref, writeAref, writeReference, writeBox, writeBody, writeElement}
 
 -- "Designer: .." and, of the head alone, 6
 abbrev pub Designer : Refusal → Type 0
@@ -250,6 +250,10 @@ module _ (d : Float) where
         (λ u. either (single e) (bind (bind (point-lawful policy _ 0 _) (λ o. plain)) (λ w. plain))
         (bind (then (test _ _ tt) (bind (array-lawful policy _ _ _ _ _ _ _) (λ c. plain))) (λ w. plain)))))))
 
+    box-lawful : (e : S.Box) → Lawful (writeBox policy d e)
+    unfolding writeBox
+    box-lawful e = then (layers-lawful _ _) (bind (points-lawful policy 0 _) (λ ps. then (test _ _ tt) plain))
+
     body-lawful : (b : S.Body) → Lawful (writeBody policy d b)
     unfolding writeBody writePolygon writeNode
     body-lawful (S.polygon e) = bind (bind (shape-lawful _ _ e) (λ w. then (test _ _ tt) plain)) (λ w. plain)
@@ -257,6 +261,7 @@ module _ (d : Float) where
     body-lawful (S.text e) = bind (text-lawful e) (λ w. plain)
     body-lawful (S.node e) = bind (shape-lawful _ _ e) (λ w. plain)
     body-lawful (S.reference e) = reference-lawful e
+    body-lawful (S.box e) = bind (box-lawful e) (λ w. plain)
 
     -- AN ELEMENT: refused by 7 to 20 alone, and its deviations are told
     pub element-lawful : (e : S.Element) → Lawful (writeElement policy d e)

@@ -1,4 +1,4 @@
--- What it is that bytes draw a sheet's cell, read by the manual's grammar (document 01, "What a structure draws"; the bounds are demand 3's own). It knows nothing of a writer.
+-- What it is that bytes draw a sheet's cell, read by the manual's grammar (document 01, "What a structure draws"; boxes: document 02, request 3; the bounds are demand 3's own). It knows nothing of a writer.
 -- `scaled x` is the whole number x * 2 ^ 1074 of a double. Bounds are stated over these, multiplied out by d and 2 ^ 22. Assumes nothing.
 use mathlib.Core.Path.{_≡_}
 use mathlib.Core.Bool.{Bool}
@@ -83,6 +83,18 @@ pub record AlikeInstances (policy : GdsRoundingPolicy) (d : Float) (columns rows
   pub instances : (i j : ℕ) → i < columns → j < rows
       → Close ((1 + i + j) * allowance policy) d (scaled po +ℤ pos i *ℤ scaled pa +ℤ pos j *ℤ scaled pb) (instanceAt o a b i j)
 
+-- ---- boxes
+
+-- of the corners (x1, y1) and (x2, y2): (x1, y1) (x2, y1) (x2, y2) (x1, y2) (x1, y1)
+abbrev pub outline : Point ℤ → Point ℤ → List (Point ℤ)
+outline p q =
+    record { x = p .x; y = p .y }
+    ∷ record { x = q .x; y = p .y }
+    ∷ record { x = q .x; y = q .y }
+    ∷ record { x = p .x; y = q .y }
+    ∷ record { x = p .x; y = p .y }
+    ∷ []
+
 -- ---- elements
 
 module _ (policy : GdsRoundingPolicy) (d : Float) where
@@ -129,6 +141,16 @@ module _ (policy : GdsRoundingPolicy) (d : Float) where
     pub y : AlikeInstances policy d (e .columns) (e .rows) (physical (e .origin .y)) (turnedAt e (e .columnSpacing) .y) (turnedAt e (e .rowSpacing) .y)
         (w .origin .y) (w .columnStep .y) (w .rowStep .y)
 
+  -- "What is promised of a drawn cell includes its boxes": the five points are those of two corners, and these are close to the sheet's
+  pub record AlikeBox (e : S.Box) (w : D.Shape) : Type 0 where
+    pub layer : e .layer ≡ w .layer
+    pub boxtype : e .boxtype ≡ w .datatype
+    pub corner : Point ℤ
+    pub opposite : Point ℤ
+    pub points : w .points ≡ outline corner opposite
+    pub first : AlikePoint policy d (e .first) corner
+    pub second : AlikePoint policy d (e .second) opposite
+
   -- of the same kind
   pub data AlikeBody : S.Body → D.Body ℕ Transform → Type 0 where
     polygon : {e : S.Shape} {w : D.Shape} → AlikeShape e w → AlikeBody (S.polygon e) (D.boundary w)
@@ -137,6 +159,7 @@ module _ (policy : GdsRoundingPolicy) (d : Float) where
     node : {e : S.Shape} {w : D.Shape} → AlikeShape e w → AlikeBody (S.node e) (D.node w)
     sref : {e : S.Reference} {w : D.Sref Transform} → AlikeSref e w → AlikeBody (S.reference e) (D.sref w)
     aref : {e : S.Reference} {w : D.Aref Transform} → AlikeAref e w → AlikeBody (S.reference e) (D.aref w)
+    box : {e : S.Box} {w : D.Shape} → AlikeBox e w → AlikeBody (S.box e) (D.box w)
 
   pub record AlikeElement (e : S.Element) (w : Worth) : Type 0 where
     pub body : AlikeBody (e .body) (w .body)

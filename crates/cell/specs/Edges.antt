@@ -19,7 +19,7 @@ use Rattle.stream.specs.Structure as D
 use Rattle.stream.specs.Drawn.{Transform, Worth, drawnOf}
 use Rattle.stream.specs.Read.{structureOf}
 use Rattle.cell.specs.declared.Answer.the-variants as A
-use Rattle.cell.specs.Write.{single}
+use Rattle.cell.specs.Write.{single, boxPoints}
 use Rattle.cell.specs.Cell.{writeCell, outAfter}
 use Rattle.cell.specs.Answer.{answerOf}
 
@@ -48,6 +48,7 @@ bodyEdges d (S.path e) = pointEdges d (e .points)
 bodyEdges d (S.text e) = edgesAt d (e .origin) ∷ []
 bodyEdges d (S.node e) = pointEdges d (e .points)
 bodyEdges d (S.reference e) = cond (single e) (edgesAt d (e .origin)) (arrayEdges (e .origin)) ∷ []
+bodyEdges d (S.box e) = pointEdges d (boxPoints (e .first) (e .second))
 
 abbrev pub cellEdges : Float → List S.Element → List (Point (Option Float))
 cellEdges d [] = []
@@ -62,6 +63,7 @@ bodyPoints (D.text w) = w .origin ∷ []
 bodyPoints (D.node w) = w .points
 bodyPoints (D.sref w) = w .origin ∷ []
 bodyPoints (D.aref w) = w .origin ∷ []
+bodyPoints (D.box w) = w .points
 
 abbrev pub drawnPoints : List Worth → List (Point ℤ)
 drawnPoints [] = []

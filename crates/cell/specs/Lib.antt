@@ -4,6 +4,7 @@ pub mod Stamps
 pub mod Names
 pub mod Call
 pub mod Write
+pub mod Boxes
 pub mod Cell
 pub mod Answer
 pub mod Order

@@ -1,4 +1,4 @@
--- Writing one element (document 01, "Result one" and "Who can cause which refusal"; write/mod.rs): its checks and conversions in the order of its function in mod.rs,
+-- Writing one element (document 01, "Result one" and "Who can cause which refusal"; boxes: document 02, request 3; write/mod.rs): its checks and conversions in the order of its function in mod.rs,
 -- and what its records say. A refusal is the first check that fails. Assumes nothing.
 use mathlib.Core.Bool.{Bool, true, false, not, _&&_, _||_, cond}
 use mathlib.Core.Option.{Option, none, some}
@@ -75,7 +75,7 @@ writeTransform degrees magnification reflection = do
   a ← writeAngle degrees
   pure (stransOf reflection m a)
 
--- ---- a polygon's ends
+-- ---- the ends of a polygon and of a box
 
 abbrev pub samePoint : Point ℤ → Point ℤ → Bool
 samePoint p q = sameInt (p .x) (q .x) && sameInt (p .y) (q .y)
@@ -88,6 +88,12 @@ lastOf p (q ∷ ps) = lastOf q ps
 unfoldable pub closed : List (Point ℤ) → Bool
 closed [] = true
 closed (p ∷ ps) = samePoint p (lastOf p ps)
+
+-- ---- boxes
+
+-- `GdsBox::points`: bottom left, bottom right, top right, top left, and bottom left again. The corners p and q stand for bottom left and top right as they are, whichever lies where.
+abbrev pub boxPoints : {C : Type 0} → Point C → Point C → List (Point C)
+boxPoints p q = p ∷ record { x = q .x; y = p .y } ∷ q ∷ record { x = p .x; y = q .y } ∷ p ∷ []
 
 -- ---- references
 
@@ -164,6 +170,14 @@ module _ (policy : GdsRoundingPolicy) (d : Float) where
     u ← writeTransform (e .degrees) (e .magnification) (e .reflection)
     cond (single e) (writeSref e u >>= λ w. pure (D.sref w)) (writeAref e u >>= λ w. pure (D.aref w))
 
+  -- `write_box_with_converter`: all five points, "closure check included"
+  unfoldable pub writeBox : S.Box → Made D.Shape
+  writeBox e = do
+    layerAndType (e .layer) (e .boxtype)
+    ps ← writePoints policy d 0 (boxPoints (e .first) (e .second))
+    need (closed ps) R.NotClosed
+    pure (record { layer = e .layer; datatype = e .boxtype; points = ps })
+
   -- by the kind: `write_element_with_field_prefix`
   unfoldable pub writeBody : S.Body → Made D.SaidBody
   writeBody (S.polygon e) = writePolygon e >>= λ w. pure (D.boundary w)
@@ -171,6 +185,7 @@ module _ (policy : GdsRoundingPolicy) (d : Float) where
   writeBody (S.text e) = writeText e >>= λ w. pure (D.text w)
   writeBody (S.node e) = writeNode e >>= λ w. pure (D.node w)
   writeBody (S.reference e) = writeReference e
+  writeBody (S.box e) = writeBox e >>= λ w. pure (D.box w)
 
   -- "properties' strings last"
   unfoldable pub writeElement : S.Element → Made D.Said

@@ -8,7 +8,7 @@ use Rattle.conversion.specs.declared.Entry.{Entry}
 use Rattle.conversion.specs.Made.{Made, pure, _>>=_}
 use Rattle.conversion.proofs.MadeLaws.{steps}
 use Rattle.stream.specs.Structure as D
-use Rattle.cell.specs.Write.{writePolygon, writePath, writeText, writeNode, writeReference, writeBody}
+use Rattle.cell.specs.Write.{writePolygon, writePath, writeText, writeNode, writeReference, writeBox, writeBody}
 use Rattle.steps.specs.declared.Measured.{Measured}
 use Rattle.steps.specs.declared.Written.{Written}
 use Rattle.steps.specs.code.Steps.{Measures, Succeeds, Writes}
@@ -17,10 +17,12 @@ use Rattle.forms.specs.declared.ShapePlaces.{ShapePlaces}
 use Rattle.forms.specs.declared.PathPlaces.{PathPlaces}
 use Rattle.forms.specs.declared.TextPlaces.{TextPlaces}
 use Rattle.forms.specs.declared.ReferencePlaces.{ReferencePlaces}
+use Rattle.forms.specs.declared.BoxPlaces.{BoxPlaces}
 use Rattle.forms.specs.declared.BodyPlaces.{BodyPlaces}
 use Rattle.forms.specs.declared.BodyPlaces.the-variants as B
-use Rattle.forms.specs.code.Forms.{shapeAt, pathAt, textAt, referenceAt, bodyAt, BodyIn}
+use Rattle.forms.specs.code.Forms.{shapeAt, pathAt, textAt, referenceAt, boxAt, bodyAt, BodyIn}
 use Rattle.polygon_node.specs.code.Shape.{polygonBytes, nodeBytes}
+use Rattle.boxes.specs.code.Box.{boxBytes}
 use Rattle.path.specs.code.Length.{pathBytes}
 use Rattle.text.specs.code.Text.{textBytes}
 use Rattle.reference.specs.code.Reference.{referenceBytes}
@@ -68,3 +70,7 @@ module _ (policy : GdsRoundingPolicy) (d : Float) (b : List ℕ) where
   pub reference-as : {p : BodyPlaces} (s : ReferencePlaces) → p ≡ B.Reference s → Kind referenceBytes (writeReference policy d (referenceAt b s)) p
   unfolding writeBody bodyBytes referenceBytes
   reference-as s g = subst (Kind referenceBytes (writeReference policy d (referenceAt b s))) (sym g) (record { measures = λ e r h. h; accepts = λ s. s; writes = λ w. w })
+
+  pub box-as : {p : BodyPlaces} (s : BoxPlaces) → p ≡ B.Box s → Kind boxBytes (writeBox policy d (boxAt b s)) p
+  unfolding writeBody bodyBytes
+  box-as s g = subst (Kind boxBytes (writeBox policy d (boxAt b s))) (sym g) (wrapped boxBytes D.box (λ w. refl) (writeBox policy d (boxAt b s)))

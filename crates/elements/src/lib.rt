@@ -29,6 +29,7 @@ fn kind_of(b: &[u8], body: BodyPlaces) -> u8
         BodyPlaces::Text { text: _ } => forms::TEXT,
         BodyPlaces::Node { shape: _ } => forms::NODE,
         BodyPlaces::Reference { reference: _ } => forms::REFERENCE,
+        BodyPlaces::Box { gds_box: _ } => forms::BOX,
     }
 }
 
@@ -56,6 +57,7 @@ fn measure_body(
             reference,
             entry,
         ),
+        BodyPlaces::Box { gds_box } => boxes::measure_box(converter, b, gds_box, entry),
     }
 }
 
@@ -145,6 +147,7 @@ fn put_body(
             part,
             entry,
         ),
+        BodyPlaces::Box { gds_box } => boxes::put_box(converter, b, gds_box, part, entry),
     }
 }
 

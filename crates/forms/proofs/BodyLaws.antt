@@ -7,7 +7,7 @@ use lib.ListN.{length, drop}
 use borrow.Author.Tests.{ne-eqb}
 use Rattle.parsing.specs.Parse.{Part, ill, part, IllFormed, illFormed, pure, follow, map}
 use Rattle.sheet.specs.Form.{Form}
-use Rattle.sheet.specs.Element.{Body, polygonKind, pathKind, textKind, nodeKind, referenceKind, bodyForm}
+use Rattle.sheet.specs.Element.{Body, polygonKind, pathKind, textKind, nodeKind, referenceKind, boxKind, bodyForm}
 use Rattle.forms.specs.declared.BodyPlaces.{BodyPlaces}
 use Rattle.forms.specs.declared.BodyForm.the-variants as F
 use Rattle.forms.specs.code.Forms.{bodyAt, BodyIn}
@@ -33,11 +33,11 @@ module _ {A : Type 0} (p : Form A) (make : A → Body) (k : ℕ) (is : bodyForm 
   body-is s end e f w h = record { form = by ∙ on _ _ e (ap (λ (x : Body). part x (drop end b)) f); places = record { body-in = w; end-in = h } }
 
 -- an unknown code
-pub body-unknown : (k : ℕ) (b : List ℕ) → (k ≡ polygonKind → ⊥) → (k ≡ pathKind → ⊥) → (k ≡ textKind → ⊥) → (k ≡ nodeKind → ⊥) → (k ≡ referenceKind → ⊥)
+pub body-unknown : (k : ℕ) (b : List ℕ) → (k ≡ polygonKind → ⊥) → (k ≡ pathKind → ⊥) → (k ≡ textKind → ⊥) → (k ≡ nodeKind → ⊥) → (k ≡ referenceKind → ⊥) → (k ≡ boxKind → ⊥)
     → BodyRead k b F.Ill
 unfolding bodyForm
-body-unknown k b p q t n r =
+body-unknown k b p q t n r x =
     record {
-      form = rw (ne-eqb k polygonKind p, ne-eqb k pathKind q, ne-eqb k textKind t, ne-eqb k nodeKind n, ne-eqb k referenceKind r);
+      form = rw (ne-eqb k polygonKind p, ne-eqb k pathKind q, ne-eqb k textKind t, ne-eqb k nodeKind n, ne-eqb k referenceKind r, ne-eqb k boxKind x);
       places = tt;
     }

@@ -9,6 +9,7 @@ pub mod ShapeLaws
 pub mod PathLaws
 pub mod TextLaws
 pub mod ReferenceLaws
+pub mod BoxLaws
 pub mod HeadLaws
 pub mod ElementLaws
 pub mod UnitLaws

@@ -46,6 +46,8 @@ pub const NODE: u8 = 4;
 
 pub const REFERENCE: u8 = 5;
 
+pub const BOX: u8 = 6;
+
 // The codes: "path type byte (0, 1, 2; 255 absent)", "vertical (0–2), horizontal (0–2), reflection (0 or 1)".
 const MAX_PATH_TYPE: u8 = 2;
 
@@ -56,7 +58,7 @@ const MAX_PRESENTATION: u8 = 2;
 const REFLECTED: u8 = 1;
 
 // Where the parts stand in the block of an element: each where the one before it ends, the first after the kind byte.
-// Polygon, node, path and text.
+// Polygon, node, path, text and box.
 const LAYER: usize = 1;
 
 const TYPE: usize = 3;
@@ -121,6 +123,13 @@ const ROW_SPACING: usize = 109;
 
 const AFTER_NAME: usize = 143;
 
+// Box: its two corners, and where it ends.
+const FIRST_CORNER: usize = 5;
+
+const SECOND_CORNER: usize = 39;
+
+const BOX_END: usize = 73;
+
 // The head's name, and the bytes of its twelve stamp numbers.
 const HEAD_NAME: usize = 0;
 
@@ -184,6 +193,14 @@ pub struct ReferencePlaces {
     pub row: usize,
 }
 
+// A box: its numbers, and the places of its two corners.
+pub struct BoxPlaces {
+    pub layer: u16,
+    pub boxtype: u16,
+    pub first: usize,
+    pub second: usize,
+}
+
 // The body of an element by its kind.
 pub enum BodyPlaces {
     Polygon { shape: ShapePlaces },
@@ -191,6 +208,7 @@ pub enum BodyPlaces {
     Text { text: TextPlaces },
     Node { shape: ShapePlaces },
     Reference { reference: ReferencePlaces },
+    Box { gds_box: BoxPlaces },
 }
 
 // How many properties an element has, and the place of the first.
@@ -582,6 +600,31 @@ fn reference(b: &[u8]) -> BodyForm
     }
 }
 
+// A box: two points, and no count of them.
+fn gds_box(b: &[u8]) -> BodyForm
+    ensures { λ r. ⌜ BodyRead Element.boxKind (now (b .entry)) r ⌝ }
+{
+    if b.len() < BOX_END {
+        return BodyForm::Ill;
+    }
+    if !point(b, FIRST_CORNER) {
+        return BodyForm::Ill;
+    }
+    if !point(b, SECOND_CORNER) {
+        return BodyForm::Ill;
+    }
+    let gds_box = BoxPlaces {
+        layer: big_endian::u16_at(b, LAYER),
+        boxtype: big_endian::u16_at(b, TYPE),
+        first: FIRST_CORNER,
+        second: SECOND_CORNER,
+    };
+    BodyForm::Body {
+        places: BodyPlaces::Box { gds_box },
+        end: BOX_END,
+    }
+}
+
 // The body by its kind; any other kind is an unknown code.
 fn body(b: &[u8], kind: u8) -> BodyForm
     ensures { λ r. ⌜ BodyRead kind (now (b .entry)) r ⌝ }
@@ -600,6 +643,9 @@ fn body(b: &[u8], kind: u8) -> BodyForm
     }
     if kind == REFERENCE {
         return reference(b);
+    }
+    if kind == BOX {
+        return gds_box(b);
     }
     BodyForm::Ill
 }

@@ -97,16 +97,17 @@ transform {r} {m} {a} {t} h = by (all (Told.transform r m a t) h)
 never : {R : Type 0} → All T (false ∷ []) → R
 never (more h done) = absurd h
 
-module _ {b n : D.Shape → Told.Tests} {p : D.Path → Told.Tests} {t : D.Text ℕ Transform → Told.Tests} {s : D.Sref Transform → Told.Tests} {a : D.Aref Transform → Told.Tests} (R : D.Body ℕ Transform → Type 0) where
+module _ {b n q : D.Shape → Told.Tests} {p : D.Path → Told.Tests} {t : D.Text ℕ Transform → Told.Tests} {s : D.Sref Transform → Told.Tests} {a : D.Aref Transform → Told.Tests} (R : D.Body ℕ Transform → Type 0) where
   byKind : ((w : D.Shape) → All T (b w) → R (D.boundary w)) → ((w : D.Path) → All T (p w) → R (D.path w)) → ((w : D.Text ℕ Transform) → All T (t w) → R (D.text w))
       → ((w : D.Shape) → All T (n w) → R (D.node w)) → ((w : D.Sref Transform) → All T (s w) → R (D.sref w)) → ((w : D.Aref Transform) → All T (a w) → R (D.aref w))
-      → (w : D.Body ℕ Transform) → All T (Told.byKind b p t n s a w) → R w
-  byKind B P X N S A (D.boundary w) = B w
-  byKind B P X N S A (D.path w) = P w
-  byKind B P X N S A (D.text w) = X w
-  byKind B P X N S A (D.node w) = N w
-  byKind B P X N S A (D.sref w) = S w
-  byKind B P X N S A (D.aref w) = A w
+      → ((w : D.Shape) → All T (q w) → R (D.box w)) → (w : D.Body ℕ Transform) → All T (Told.byKind b p t n s a q w) → R w
+  byKind B P X N S A Q (D.boundary w) = B w
+  byKind B P X N S A Q (D.path w) = P w
+  byKind B P X N S A Q (D.text w) = X w
+  byKind B P X N S A Q (D.node w) = N w
+  byKind B P X N S A Q (D.sref w) = S w
+  byKind B P X N S A Q (D.aref w) = A w
+  byKind B P X N S A Q (D.box w) = Q w
 
 module _ (r : GdsRoundingPolicy) (d : Float) where
   close : (p : Float) (q : ℤ) → T (Told.near (Told.allowed r) d (scaled p) q) → Close (allowance r) d (scaled p) q
@@ -169,12 +170,49 @@ module _ (r : GdsRoundingPolicy) (d : Float) where
   aref (more a (more n (more u (more c (more k (more x (more y done))))))) =
       record { array = array _ _ a; name = bytes _ _ n; transform = transform u; columns = eqb→eq _ _ c; rows = eqb→eq _ _ k; x = instances x; y = instances y }
 
+  -- the drawn corners
+  record Corners (e : S.Box) (ps : List (Point ℤ)) : Type 0 where
+    corner : Point ℤ
+    opposite : Point ℤ
+    points : ps ≡ Draws.outline corner opposite
+    first : Draws.AlikePoint r d (e .first) corner
+    second : Draws.AlikePoint r d (e .second) opposite
+
+  corners : (e : S.Box) (ps : List (Point ℤ)) → T (Told.five (Told.corners r d e) ps) → Corners e ps
+  corners e [] h = absurd h
+  corners e (p0 ∷ []) h = absurd h
+  corners e (p0 ∷ p1 ∷ []) h = absurd h
+  corners e (p0 ∷ p1 ∷ p2 ∷ []) h = absurd h
+  corners e (p0 ∷ p1 ∷ p2 ∷ p3 ∷ []) h = absurd h
+  corners e (p0 ∷ p1 ∷ p2 ∷ p3 ∷ p4 ∷ []) h = by (all (Told.corners r d e p0 p1 p2 p3 p4) h)
+    where
+      at : {x y z w : ℤ} → x ≡ z → y ≡ w → _≡_ {A = Point ℤ} (record { x = x; y = y }) (record { x = z; y = w })
+      at i j = ap₂ (λ (x y : ℤ). record { x = x; y = y }) i j
+
+      by : All T (Told.corners r d e p0 p1 p2 p3 p4) → Corners e (p0 ∷ p1 ∷ p2 ∷ p3 ∷ p4 ∷ [])
+      by (more f (more s (more y1 (more x1 (more y3 (more x3 (more x4 (more y4 done)))))))) = record {
+        corner = p0;
+        opposite = p2;
+        points =
+            ap₂ (λ (q : Point ℤ) (t : List (Point ℤ)). p0 ∷ q ∷ p2 ∷ t) (at (same-is _ _ x1) (same-is _ _ y1))
+            (ap₂ (λ (q t : Point ℤ). q ∷ t ∷ []) (at (same-is _ _ x3) (same-is _ _ y3)) (at (same-is _ _ x4) (same-is _ _ y4)));
+        first = point (e .first) p0 (all (Told.point r d (e .first) p0) f);
+        second = point (e .second) p2 (all (Told.point r d (e .second) p2) s);
+      }
+  corners e (p0 ∷ p1 ∷ p2 ∷ p3 ∷ p4 ∷ p5 ∷ ps) h = absurd h
+
+  box : {e : S.Box} {w : D.Shape} → All T (Told.box r d e w) → Draws.AlikeBox r d e w
+  box {e} {w} (more l (more t (more f done))) =
+      let k = corners e (w .points) f in
+      record { layer = eqb→eq _ _ l; boxtype = eqb→eq _ _ t; corner = k .corner; opposite = k .opposite; points = k .points; first = k .first; second = k .second }
+
   body : (e : S.Body) (w : D.Body ℕ Transform) → All T (Told.body r d e w) → Draws.AlikeBody r d e w
-  body (S.polygon e) = byKind _ (λ w h. Draws.polygon (shape h)) (λ w. never) (λ w. never) (λ w. never) (λ w. never) (λ w. never)
-  body (S.path e) = byKind _ (λ w. never) (λ w h. Draws.path (path h)) (λ w. never) (λ w. never) (λ w. never) (λ w. never)
-  body (S.text e) = byKind _ (λ w. never) (λ w. never) (λ w h. Draws.text (text h)) (λ w. never) (λ w. never) (λ w. never)
-  body (S.node e) = byKind _ (λ w. never) (λ w. never) (λ w. never) (λ w h. Draws.node (shape h)) (λ w. never) (λ w. never)
-  body (S.reference e) = byKind _ (λ w. never) (λ w. never) (λ w. never) (λ w. never) (λ w h. Draws.sref (sref h)) (λ w h. Draws.aref (aref h))
+  body (S.polygon e) = byKind _ (λ w h. Draws.polygon (shape h)) (λ w. never) (λ w. never) (λ w. never) (λ w. never) (λ w. never) (λ w. never)
+  body (S.path e) = byKind _ (λ w. never) (λ w h. Draws.path (path h)) (λ w. never) (λ w. never) (λ w. never) (λ w. never) (λ w. never)
+  body (S.text e) = byKind _ (λ w. never) (λ w. never) (λ w h. Draws.text (text h)) (λ w. never) (λ w. never) (λ w. never) (λ w. never)
+  body (S.node e) = byKind _ (λ w. never) (λ w. never) (λ w. never) (λ w h. Draws.node (shape h)) (λ w. never) (λ w. never) (λ w. never)
+  body (S.reference e) = byKind _ (λ w. never) (λ w. never) (λ w. never) (λ w. never) (λ w h. Draws.sref (sref h)) (λ w h. Draws.aref (aref h)) (λ w. never)
+  body (S.box e) = byKind _ (λ w. never) (λ w. never) (λ w. never) (λ w. never) (λ w. never) (λ w. never) (λ w h. Draws.box (box h))
 
   element : (e : S.Element) (w : Worth) → All T (Told.element r d e w) → Draws.AlikeElement r d e w
   element e w (more b (more qs done)) = record { body = body _ _ (all (Told.body r d (e .body) (w .body)) b); properties = each Told.property property _ _ qs }

@@ -11,7 +11,7 @@ use Rattle.conversion.specs.Close.{allowance, Close}
 use Rattle.cases.specs.Case.{halved}
 use Rattle.cases.proofs.Open.{opened}
 use Rattle.guards.specs.Values.{one}
-use Rattle.guards.specs.Edges.{pointsWithin, pointsBeyond, arraysWithin, arraysBeyond, realsWithin, realsBeyond}
+use Rattle.guards.specs.Edges.{pointsWithin, pointsBeyond, boxesWithin, boxesBeyond, arraysWithin, arraysBeyond, realsWithin, realsBeyond}
 use Rattle.guards.proofs.DecidedLaws.{Drawing, drawing, allDraw, allDiffer, drawn, refused}
 
 -- ---- whole structures
@@ -29,6 +29,20 @@ points-beyond = tt
 
 pub points-refused : All (λ q. Drawing q → ⊥) pointsBeyond
 points-refused = refused (λ q. q) drawing (λ q. refl) pointsBeyond points-beyond
+
+boxes-within : T (allDraw drawing boxesWithin)
+unfolding opened halved boxesWithin allDraw
+boxes-within = tt
+
+pub boxes-drawn : All Drawing boxesWithin
+boxes-drawn = drawn (λ q. q) drawing (λ q. refl) boxesWithin boxes-within
+
+boxes-beyond : T (allDiffer (λ q. q) drawing boxesBeyond)
+unfolding opened halved boxesBeyond allDiffer
+boxes-beyond = tt
+
+pub boxes-refused : All (λ q. Drawing q → ⊥) boxesBeyond
+boxes-refused = refused (λ q. q) drawing (λ q. refl) boxesBeyond boxes-beyond
 
 arrays-within : T (allDraw drawing arraysWithin)
 unfolding opened halved arraysWithin allDraw

@@ -7,4 +7,5 @@ pub mod Bites
 pub mod EdgesLaws
 pub mod ReadingLaws
 pub mod OrderLaws
+pub mod BoxesLaws
 pub mod Whole

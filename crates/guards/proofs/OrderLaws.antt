@@ -6,7 +6,7 @@ use Rattle.stream.specs.Structure.{Said}
 use Rattle.cell.specs.Write.{writeElement}
 use Rattle.cases.specs.Case.{halved}
 use Rattle.cases.proofs.Open.{opened}
-use Rattle.guards.specs.Orders.{Row, coordinates, polygons, nodes, paths, texts, references, arrays}
+use Rattle.guards.specs.Orders.{Row, coordinates, polygons, nodes, boxes, paths, texts, references, arrays}
 
 pub answers : List Row → List (Made Said)
 answers [] = []
@@ -27,6 +27,10 @@ polygons-hold = refl
 pub nodes-hold : answers nodes ≡ known nodes
 unfolding opened halved nodes answers known
 nodes-hold = refl
+
+pub boxes-hold : answers boxes ≡ known boxes
+unfolding opened halved boxes answers known
+boxes-hold = refl
 
 pub paths-hold : answers paths ≡ known paths
 unfolding opened halved paths answers known

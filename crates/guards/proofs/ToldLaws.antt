@@ -43,8 +43,11 @@ bytes-refl (b ∷ s) = and-i (eqb b b) (sameBytes s s) (eqb-refl b) (bytes-refl 
 pub bytes : {s t : List ℕ} → s ≡ t → T (sameBytes s t)
 bytes {s} e = subst (λ (t : List ℕ). T (sameBytes s t)) e (bytes-refl s)
 
+own : (z : ℤ) → T (sameInt z z)
+own z = subst T (sym (same-own z)) tt
+
 int : {y z : ℤ} → y ≡ z → T (sameInt y z)
-int {y} e = subst (λ (z : ℤ). T (sameInt y z)) e (subst T (sym (same-own y)) tt)
+int {y} e = subst (λ (z : ℤ). T (sameInt y z)) e (own y)
 
 flag-refl : (b : Bool) → T (Told.same b b)
 flag-refl true = tt
@@ -145,6 +148,14 @@ module _ (r : GdsRoundingPolicy) (d : Float) where
   aref h =
       more (array _ _ (h .array)) (more (bytes (h .name)) (more (all (transform (h .transform))) (more (eq (h .columns)) (more (eq (h .rows)) (more (all (instances (h .x))) (more (all (instances (h .y))) done))))))
 
+  box : {e : S.Box} {w : D.Shape} → Draws.AlikeBox r d e w → All T (Told.box r d e w)
+  box {e} h = more (eq (h .layer)) (more (eq (h .boxtype)) (more (subst (λ (ps : List (Point ℤ)). T (Told.five (Told.corners r d e) ps)) (sym (h .points)) (all fine)) done))
+    where
+      fine : All T (Told.corners r d e (h .corner) (record { x = h .opposite .x; y = h .corner .y }) (h .opposite) (record { x = h .corner .x; y = h .opposite .y }) (h .corner))
+      fine =
+          more (all (point _ _ (h .first))) (more (all (point _ _ (h .second)))
+          (more (own (h .corner .y)) (more (own (h .opposite .x)) (more (own (h .opposite .y)) (more (own (h .corner .x)) (more (own (h .corner .x)) (more (own (h .corner .y)) done)))))))
+
   body : {e : S.Body} {w : D.Body ℕ Transform} → Draws.AlikeBody r d e w → All T (Told.body r d e w)
   body (Draws.polygon h) = shape h
   body (Draws.path h) = path h
@@ -152,6 +163,7 @@ module _ (r : GdsRoundingPolicy) (d : Float) where
   body (Draws.node h) = shape h
   body (Draws.sref h) = sref h
   body (Draws.aref h) = aref h
+  body (Draws.box h) = box h
 
   element : (e : S.Element) (w : Worth) → Draws.AlikeElement r d e w → All T (Told.element r d e w)
   element e w h = more (all (body (h .body))) (more (each Told.property property (h .properties)) done)

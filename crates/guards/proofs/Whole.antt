@@ -34,17 +34,17 @@ unfolding opened halved sheet
 sheet-bytes = tt
 
 out : List ℕ
-out = x 412 0
+out = x 488 0
 
 report : List ℕ
-report = x 33 0
+report = x 66 0
 
--- 412 bytes, and one entry, of an error of 1/2: the node's 1.5
-answer : answerOf (writeCell 0 one sheet (length out) (length report)) ≡ Accepted 412 1 (bits 0x3fe0000000000000)
+-- 488 bytes, and two entries: the node's 1.5, with the greatest error, 1/2, and the box's 5.25
+answer : answerOf (writeCell 0 one sheet (length out) (length report)) ≡ Accepted 488 2 (bits 0x3fe0000000000000)
 unfolding opened halved sheet out report
 answer = refl
 
-written : take 412 (outAfter (writeCell 0 one sheet (length out) (length report)) out) ≡ flat records
+written : take 488 (outAfter (writeCell 0 one sheet (length out) (length report)) out) ≡ flat records
 unfolding opened halved sheet records out report
 written = refl
 
@@ -53,4 +53,4 @@ unfolding opened fits
 fitting = tt
 
 pub drawn : Draws 0 one sheet (flat records)
-drawn = subst (λ (b : List ℕ). Draws 0 one sheet b) written (demand 0 one sheet out report 412 1 (bits 0x3fe0000000000000) fitting (all-bytes sheet sheet-bytes) answer)
+drawn = subst (λ (b : List ℕ). Draws 0 one sheet b) written (demand 0 one sheet out report 488 2 (bits 0x3fe0000000000000) fitting (all-bytes sheet sheet-bytes) answer)

@@ -1,5 +1,5 @@
 -- Small cells at the edge of demand 3's bounds: e is 1/2 + 2 ^ -22 of a unit for nearest, 1 + 2 ^ -22 for floor and ceiling, 2 ^ -20 for strict, and (1 + i + j) times e for instance (i, j) of an
--- array (document 01, "What a structure draws", and the demand). The structures of `within` draw their sheet's cell; those of `beyond` do not. Sheets and structures are by hand. Assumes nothing.
+-- array (document 01, "What a structure draws", and the demand; boxes: document 02, request 3). The structures of `within` draw their sheet's cell; those of `beyond` do not. Sheets and structures are by hand. Assumes nothing.
 use mathlib.Core.List.{List, [], _∷_, _++_}
 use Prim.Native.Nat.{ℕ, _+_}
 use Rattle.guards.specs.Question.{Question, x, bits}
@@ -144,6 +144,61 @@ pointsBeyond =
     ∷ at 1 one (double endless) 0 {- an infinity -}
     ∷ at 1 one (double noNumber) 0 {- a NaN -}
     ∷ at 4 one (double 0) 0 {- no policy has the number 4 -}
+    ∷ []
+
+-- ---- a box on layer 1 and of type 2 from (1/2, 1/2) to (17/2, 13/2), under nearest in the unit 1: both neighbours of each coordinate are within, but it has one of them in all points
+
+-- pairs and head; kind, layer, type; the corners; no properties
+abbrev boxSheet : List ℕ
+boxSheet =
+    x 47 0x00000002000000140000001b0000002f0000004b000141000000000000000000000000000000000000000000000000
+    ++ x 5 0x0600010002
+    ++ double half
+    ++ double half
+    ++ double 0x4021000000000000
+    ++ double 0x401a000000000000
+    ++ x 2 0
+
+-- of 4 bytes each
+abbrev longs : List ℕ → List ℕ
+longs [] = []
+longs (q ∷ qs) = x 4 q ++ longs qs
+
+-- BGNSTR and STRNAME "A"; BOX, LAYER, BOXTYPE, XY of five points; ENDEL and ENDSTR
+abbrev boxBytes : List ℕ → List ℕ
+boxBytes qs =
+    x 34 0x001c0502000000000000000000000000000000000000000000000000000606064100
+    ++ x 20 0x00042d0000060d02000100062e020002002c1003
+    ++ longs qs
+    ++ x 8 0x0004110000040700
+
+abbrev drawnAs : List ℕ → Question
+drawnAs qs = record { policy = 0; unit = bits one; sheet = boxSheet; bytes = boxBytes qs }
+
+unfoldable pub boxesWithin : List Question
+boxesWithin =
+    drawnAs (0 ∷ 0 ∷ 8 ∷ 0 ∷ 8 ∷ 6 ∷ 0 ∷ 6 ∷ 0 ∷ 0 ∷ []) {- all down -}
+    ∷ drawnAs (1 ∷ 1 ∷ 9 ∷ 1 ∷ 9 ∷ 7 ∷ 1 ∷ 7 ∷ 1 ∷ 1 ∷ []) {- all up -}
+    ∷ drawnAs (0 ∷ 1 ∷ 9 ∷ 1 ∷ 9 ∷ 6 ∷ 0 ∷ 6 ∷ 0 ∷ 1 ∷ []) {- each its own way -}
+    ∷ []
+
+-- the first of these with one coordinate of one point up, and with a coordinate farther off
+unfoldable pub boxesBeyond : List Question
+boxesBeyond =
+    drawnAs (1 ∷ 0 ∷ 8 ∷ 0 ∷ 8 ∷ 6 ∷ 0 ∷ 6 ∷ 0 ∷ 0 ∷ []) {- x of the first point alone up -}
+    ∷ drawnAs (0 ∷ 1 ∷ 8 ∷ 0 ∷ 8 ∷ 6 ∷ 0 ∷ 6 ∷ 0 ∷ 0 ∷ []) {- y of the first point alone up -}
+    ∷ drawnAs (0 ∷ 0 ∷ 9 ∷ 0 ∷ 8 ∷ 6 ∷ 0 ∷ 6 ∷ 0 ∷ 0 ∷ []) {- x of the second alone up -}
+    ∷ drawnAs (0 ∷ 0 ∷ 8 ∷ 1 ∷ 8 ∷ 6 ∷ 0 ∷ 6 ∷ 0 ∷ 0 ∷ []) {- y of the second alone up -}
+    ∷ drawnAs (0 ∷ 0 ∷ 8 ∷ 0 ∷ 9 ∷ 6 ∷ 0 ∷ 6 ∷ 0 ∷ 0 ∷ []) {- x of the third alone up -}
+    ∷ drawnAs (0 ∷ 0 ∷ 8 ∷ 0 ∷ 8 ∷ 7 ∷ 0 ∷ 6 ∷ 0 ∷ 0 ∷ []) {- y of the third alone up -}
+    ∷ drawnAs (0 ∷ 0 ∷ 8 ∷ 0 ∷ 8 ∷ 6 ∷ 1 ∷ 6 ∷ 0 ∷ 0 ∷ []) {- x of the fourth alone up -}
+    ∷ drawnAs (0 ∷ 0 ∷ 8 ∷ 0 ∷ 8 ∷ 6 ∷ 0 ∷ 7 ∷ 0 ∷ 0 ∷ []) {- y of the fourth alone up -}
+    ∷ drawnAs (0 ∷ 0 ∷ 8 ∷ 0 ∷ 8 ∷ 6 ∷ 0 ∷ 6 ∷ 1 ∷ 0 ∷ []) {- x of the last alone up -}
+    ∷ drawnAs (0 ∷ 0 ∷ 8 ∷ 0 ∷ 8 ∷ 6 ∷ 0 ∷ 6 ∷ 0 ∷ 1 ∷ []) {- y of the last alone up -}
+    ∷ drawnAs (2 ∷ 0 ∷ 8 ∷ 0 ∷ 8 ∷ 6 ∷ 2 ∷ 6 ∷ 2 ∷ 0 ∷ []) {- x1 beyond both neighbours, in every point -}
+    ∷ drawnAs (0 ∷ 2 ∷ 8 ∷ 2 ∷ 8 ∷ 6 ∷ 0 ∷ 6 ∷ 0 ∷ 2 ∷ []) {- y1 beyond both neighbours, in every point -}
+    ∷ drawnAs (0 ∷ 0 ∷ 10 ∷ 0 ∷ 10 ∷ 6 ∷ 0 ∷ 6 ∷ 0 ∷ 0 ∷ []) {- x2 beyond both neighbours, in every point -}
+    ∷ drawnAs (0 ∷ 0 ∷ 8 ∷ 0 ∷ 8 ∷ 8 ∷ 0 ∷ 8 ∷ 0 ∷ 0 ∷ []) {- y2 beyond both neighbours, in every point -}
     ∷ []
 
 -- ---- an array of "B", sine 0 and cosine 1, all drawn at 0: origin, column and row spacing as doubles on one axis, 0 on the other

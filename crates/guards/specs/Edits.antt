@@ -1,4 +1,4 @@
--- Edits of the structure of specs/Sample (document 01, "What a structure draws", its last paragraph). Each of `wrong` changes one thing that is drawn, and the structure draws another cell.
+-- Edits of the structure of specs/Sample (document 01, "What a structure draws", its last paragraph; the box: document 02, request 3). Each of `wrong` changes one thing that is drawn, and the structure draws another cell.
 -- No edit of `alike` changes anything that is drawn, and the structure still draws the sheet's. Under nearest and d = 1. Assumes nothing.
 use mathlib.Core.List.{List, [], _∷_, _++_}
 use Prim.Native.Nat.{ℕ}
@@ -22,6 +22,11 @@ wrong =
     ∷ edit 44 1 (x 4 0x00040800) {- a polygon for a path -}
     ∷ edit 30 3 (x 16 0x0004080000060d02000600060e020007) {- a polygon for a node -}
     ∷ edit 20 9 (x 28 0x0004150000060d02000500062a02012c000c100300000003fffffffc) {- a node for a text -}
+    ∷ edit 49 3 (x 16 0x0004080000060d02000a00060e02000b) {- a polygon for a box -}
+    ∷ edit 49 3 (x 16 0x0004090000060d02000a00060e02000b) {- a path for a box -}
+    ∷ edit 49 3 (x 16 0x0004150000060d02000a00062a02000b) {- a node for a box -}
+    ∷ edit 2 3 (x 16 0x00042d0000060d02000100062e020002) {- a box for a polygon -}
+    ∷ edit 30 3 (x 16 0x00042d0000060d02000600062e020007) {- a box for a node -}
     ∷ edit 3 1 (x 6 0x00060d020002) {- a polygon: layer -}
     ∷ edit 4 1 (x 6 0x00060e020003) {- a polygon: type -}
     ∷ edit 5 1 (x 36 0x002410030000000100000000000000040000000000000004000000040000000000000000) {- a polygon: x of its first point -}
@@ -101,8 +106,29 @@ wrong =
     ∷ edit 42 1 (x 28 0x001c10030000000a000000140000004600000016000000130000008c) {- an array: x of the row step, which puts those of row 2 beside -}
     ∷ edit 42 1 (x 28 0x001c10030000000a000000140000004600000016000000100000008f) {- an array: y of the row step -}
     ∷ edit 39 4 (x 22 0x00040a00000612064300000c10030000000a00000014) {- a reference for an array -}
+    ∷ edit 50 1 (x 6 0x00060d02000b) {- a box: layer -}
+    ∷ edit 51 1 (x 6 0x00062e02000a) {- a box: type -}
+    ∷ edit 52 1 (x 44 0x002c10030000000600000006fffffffe00000006fffffffefffffffd00000005fffffffd0000000500000006) {- a box: x of its first point -}
+    ∷ edit 52 1 (x 44 0x002c10030000000500000007fffffffe00000006fffffffefffffffd00000005fffffffd0000000500000006) {- a box: y of its first point -}
+    ∷ edit 52 1 (x 44 0x002c10030000000500000006ffffffff00000006fffffffefffffffd00000005fffffffd0000000500000006) {- a box: x of its second point -}
+    ∷ edit 52 1 (x 44 0x002c10030000000500000006fffffffe00000007fffffffefffffffd00000005fffffffd0000000500000006) {- a box: y of its second point -}
+    ∷ edit 52 1 (x 44 0x002c10030000000500000006fffffffe00000006fffffffffffffffd00000005fffffffd0000000500000006) {- a box: x of its third point -}
+    ∷ edit 52 1 (x 44 0x002c10030000000500000006fffffffe00000006fffffffefffffffe00000005fffffffd0000000500000006) {- a box: y of its third point -}
+    ∷ edit 52 1 (x 44 0x002c10030000000500000006fffffffe00000006fffffffefffffffd00000006fffffffd0000000500000006) {- a box: x of its fourth point -}
+    ∷ edit 52 1 (x 44 0x002c10030000000500000006fffffffe00000006fffffffefffffffd00000005fffffffe0000000500000006) {- a box: y of its fourth point -}
+    ∷ edit 52 1 (x 44 0x002c10030000000500000006fffffffe00000006fffffffefffffffd00000005fffffffd0000000600000006) {- a box: x of its last point -}
+    ∷ edit 52 1 (x 44 0x002c10030000000500000006fffffffe00000006fffffffefffffffd00000005fffffffd0000000500000007) {- a box: y of its last point -}
+    ∷ edit 52 1 (x 44 0x002c1003000000050000000600000005fffffffdfffffffefffffffdfffffffe000000060000000500000006) {- a box: points the other way round -}
+    ∷ edit 52 1 (x 44 0x002c1003fffffffefffffffd00000005fffffffd0000000500000006fffffffe00000006fffffffefffffffd) {- a box: from its other corner, which is left of and below the first -}
+    ∷ edit 52 1 (x 36 0x002410030000000500000006fffffffe00000006fffffffefffffffd00000005fffffffd) {- a box: left open, a point fewer -}
+    ∷ edit 52 1 (x 52 0x003410030000000500000006fffffffe00000006fffffffefffffffd00000005fffffffd00000005000000060000000500000006) {- a box: a point more -}
+    ∷ edit 52 1 (x 4 0x00041003) {- a box: no point -}
+    ∷ edit 53 1 (x 6 0x00062b020004) {- a box: attribute -}
+    ∷ edit 54 1 (x 6 0x00062c066300) {- a box: value -}
+    ∷ edit 53 2 [] {- a box: a property fewer -}
+    ∷ edit 55 0 (x 12 0x00062b02000300062c066200) {- a box: a property more -}
     ∷ edit 35 4 [] {- an element fewer -}
-    ∷ edit 49 0 (x 32 0x0004150000060d02000100062a020001000c1003000000000000000000041100) {- an element more -}
+    ∷ edit 56 0 (x 32 0x0004150000060d02000100062a020001000c1003000000000000000000041100) {- an element more -}
     ∷ edit 30 9 (x 58 0x00040a00000612064200000c10030000000500000006000411000004150000060d02000600062a020007000c1003000000020000000200041100) {- elements in another order -}
     ∷ []
 
@@ -118,4 +144,5 @@ alike =
     ∷ edit 37 0 (x 30 0x00061a010000000c1b054110000000000000000c1c050000000000000000) {- magnification 1, degrees 0 -}
     ∷ edit 35 3 (x 46 0x00040b000006120642000008130200010001001c1003000000050000000600000009000000090000000000000000) {- an array of one -}
     ∷ edit 42 1 (x 28 0x001c10030000000a000000140000004800000014000000100000008c) {- a column step 1 beside, within the bound -}
+    ∷ edit 54 1 (x 8 0x00082c0662000000) {- a box's value with three zero bytes at its end -}
     ∷ []

@@ -1,5 +1,5 @@
 -- Edits of the structure of specs/Sample that reading refuses, each with its fault and its block: one or more for each condition of document 01, "What a structure draws", its second and third
--- paragraphs; and one record changed, left out, doubled or exchanged with the next, in turn. Assumes nothing.
+-- paragraphs (boxes: document 02, request 3); and one record changed, left out, doubled or exchanged with the next, in turn. Assumes nothing.
 use mathlib.Core.List.{List, [], _∷_, _++_}
 use Prim.Native.Nat.{ℕ, suc, _+_}
 use Rattle.refusal.specs.declared.Refusal.the-variants as R
@@ -23,10 +23,10 @@ unfolding records
 refusals =
     {- "Each record has an even length of at least 4 that fits what is left" -}
     stop 1 1 (x 5 0x0005060641) noRecord 0 {- an odd length -}
-    ∷ stop 49 1 (x 4 0x00020700) noRecord 0 {- a length of 2 -}
-    ∷ stop 49 1 (x 4 0x00000700) noRecord 0 {- of 0 -}
-    ∷ stop 28 22 (x 6 0x000819066162) noRecord 3 {- of 8, where 6 are left -}
-    ∷ stop 49 1 (x 3 0x000407) noRecord 0 {- half a head -}
+    ∷ stop 56 1 (x 4 0x00020700) noRecord 0 {- a length of 2 -}
+    ∷ stop 56 1 (x 4 0x00000700) noRecord 0 {- of 0 -}
+    ∷ stop 28 29 (x 6 0x000819066162) noRecord 3 {- of 8, where 6 are left -}
+    ∷ stop 56 1 (x 3 0x000407) noRecord 0 {- half a head -}
     {- ".. and code, data type and data size of the manual" -}
     ∷ stop 3 0 (x 4 0x00043f00) noRecord 1 {- a code that no record has -}
     ∷ stop 3 1 (x 6 0x00060d010001) noRecord 1 {- a LAYER of bits -}
@@ -38,14 +38,17 @@ refusals =
     ∷ stop 5 1 (x 40 0x00281003000000000000000000000004000000000000000400000004000000000000000000000000) noRecord 1 {- an XY of four points and a half -}
     ∷ stop 0 1 (x 26 0x001a05020000000000000000000000000000000000000000000000) noRecord 0 {- a BGNSTR of eleven numbers -}
     ∷ stop 10 1 (x 6 0x000611000000) noRecord 1 {- an ENDEL with data -}
+    ∷ stop 49 1 (x 6 0x00062d000000) noRecord 0 {- a BOX with data -}
+    ∷ stop 51 1 (x 8 0x00082e020000000b) noRecord 8 {- a BOXTYPE of 4 bytes -}
+    ∷ stop 52 1 (x 16 0x001010030000000500000006fffffffe) noRecord 8 {- an XY of a point and a half, in a box -}
     {- "BGNSTR, STRNAME, elements, ENDSTR, then no byte." -}
-    ∷ stop 0 50 [] noRecord 0 {- nothing -}
+    ∷ stop 0 57 [] noRecord 0 {- nothing -}
     ∷ stop 0 1 [] notOfGrammar 0 {- no BGNSTR -}
     ∷ stop 1 1 [] notOfGrammar 0 {- no STRNAME -}
     ∷ stop 11 0 (x 6 0x00060d020001) notOfGrammar 0 {- a LAYER between two elements -}
-    ∷ stop 49 1 [] noRecord 0 {- no ENDSTR -}
-    ∷ stop 50 0 (x 1 0x00) notOfGrammar 0 {- a byte after ENDSTR -}
-    ∷ stop 50 0 (x 4 0x00040700) notOfGrammar 0 {- a record after ENDSTR -}
+    ∷ stop 56 1 [] noRecord 0 {- no ENDSTR -}
+    ∷ stop 57 0 (x 1 0x00) notOfGrammar 0 {- a byte after ENDSTR -}
+    ∷ stop 57 0 (x 4 0x00040700) notOfGrammar 0 {- a record after ENDSTR -}
     {- "An element is its kind's records in result one's order." -}
     ∷ stop 3 1 [] notOfGrammar 1 {- no LAYER -}
     ∷ stop 5 1 [] notOfGrammar 1 {- no XY -}
@@ -53,6 +56,15 @@ refusals =
     ∷ stop 4 1 (x 6 0x00062a020002) notOfGrammar 1 {- NODETYPE in a polygon -}
     ∷ stop 32 1 (x 6 0x00060e020007) notOfGrammar 4 {- DATATYPE in a node -}
     ∷ stop 22 1 (x 6 0x00060e02012c) notOfGrammar 3 {- DATATYPE in a text -}
+    ∷ stop 51 1 [] notOfGrammar 8 {- a box without BOXTYPE -}
+    ∷ stop 51 1 (x 6 0x00060e02000b) notOfGrammar 8 {- DATATYPE in a box -}
+    ∷ stop 51 1 (x 6 0x00062a02000b) notOfGrammar 8 {- NODETYPE in a box -}
+    ∷ stop 4 1 (x 6 0x00062e020002) notOfGrammar 1 {- BOXTYPE in a polygon -}
+    ∷ stop 32 1 (x 6 0x00062e020007) notOfGrammar 4 {- in a node -}
+    ∷ stop 50 2 (x 12 0x00062e02000b00060d02000a) notOfGrammar 8 {- BOXTYPE before LAYER -}
+    ∷ stop 52 1 [] notOfGrammar 8 {- a box without XY -}
+    ∷ stop 53 0 (x 44 0x002c10030000000500000006fffffffe00000006fffffffefffffffd00000005fffffffd0000000500000006) notOfGrammar 8 {- a second XY -}
+    ∷ stop 55 1 [] notOfGrammar 8 {- a box without ENDEL -}
     ∷ stop 14 2 (x 14 0x00080f0300000005000621020002) notOfGrammar 2 {- WIDTH before PATHTYPE -}
     ∷ stop 15 2 (x 16 0x000830030000000600080f0300000005) notOfGrammar 2 {- BGNEXTN before WIDTH -}
     ∷ stop 16 2 (x 16 0x00083103000000070008300300000006) notOfGrammar 2 {- ENDEXTN before BGNEXTN -}

@@ -8,3 +8,4 @@ pub mod Edges
 pub mod Worth
 pub mod Faults
 pub mod Orders
+pub mod Boxes

@@ -1,4 +1,4 @@
--- Elements that fail two checks that follow one another, for each kind (document 01, "Who can cause which refusal": "in an element its function's order in mod.rs"), with the refusal that comes
+-- Elements that fail two checks that follow one another, for each kind (document 01, "Who can cause which refusal": "in an element its function's order in mod.rs"; boxes: document 02, request 3), with the refusal that comes
 -- first. Two checks of one number cannot be told apart: layer and type, columns and rows, the two spacings of 12, sine and cosine, magnification's and degrees' 14. Under nearest and d = 1 where
 -- nothing else is said. Assumes nothing.
 use mathlib.Core.Bool.{false}
@@ -91,6 +91,10 @@ widely = by Nearest (bits 0x7e00000000000000)
 abbrev shape : ℕ → ℕ → List (Point Unit) → S.Shape
 shape l t ps = record { layer = l; datatype = t; points = ps }
 
+-- layer, type, first and second corner
+abbrev box : ℕ → ℕ → Point Unit → Point Unit → S.Body
+box l t q r = S.box (record { layer = l; boxtype = t; first = q; second = r })
+
 abbrev path : ℕ → ℕ → Unit → Unit → Unit → List (Point Unit) → S.Body
 path l t w b e ps = S.path (record { layer = l; datatype = t; pathType = none; width = some w; begin = some b; end = some e; points = ps })
 
@@ -152,6 +156,23 @@ nodes =
     ∷ row (S.node (shape 1 1 (at good huge ∷ p far ∷ []))) [] R.NotFinite {- a point, then the next -}
     ∷ row (S.node (shape 1 1 (o ∷ at good unitless ∷ []))) long R.SourceUnit {- the last point, then a value -}
     ∷ row (S.node (shape 1 1 (o ∷ p other ∷ []))) long R.StringLength {- its ends may differ -}
+    ∷ []
+
+-- the corners' coordinates are x1, y1, x2 and y2; a box is never refused by 8 or 20
+unfoldable pub boxes : List Row
+boxes =
+    row (box 256 1 (p unitless) o) [] R.LayerOrType {- layer, then a corner -}
+    ∷ row (box 1 256 (p unitless) o) [] R.LayerOrType {- type, then a corner -}
+    ∷ row (box 1 1 (at unitless far) o) [] R.SourceUnit {- x1, then y1 -}
+    ∷ row (box 1 1 (at far unitless) o) [] R.OutOfRange {- also where x1 is refused later in its own checks -}
+    ∷ row (box 1 1 (p huge) (p unitless)) [] R.NotFinite {- x1, then x2 -}
+    ∷ strictly (box 1 1 (p off) (at good unitless)) [] R.OffGrid {- x1, then y2 -}
+    ∷ row (box 1 1 (at good far) (p unitless)) [] R.OutOfRange {- y1, then x2 -}
+    ∷ row (box 1 1 (at good huge) (at good unitless)) [] R.NotFinite {- y1, then y2 -}
+    ∷ strictly (box 1 1 o (at off far)) [] R.OffGrid {- x2, then y2 -}
+    ∷ row (box 1 1 o (at far unitless)) [] R.OutOfRange {- also where x2 is refused later in its own checks -}
+    ∷ row (box 1 1 o (at good unitless)) long R.SourceUnit {- y2, then a value -}
+    ∷ row (box 255 255 o o) long R.StringLength {- a value; its corners may be one -}
     ∷ []
 
 unfoldable pub paths : List Row

@@ -1,4 +1,4 @@
--- Demand 3's comparison told a second time, as tests that compute (document 01, "What a structure draws", its last paragraph; the bounds are the demand's). Bounds and formulas stand
+-- Demand 3's comparison told a second time, as tests that compute (document 01, "What a structure draws", its last paragraph; boxes: document 02, request 3; the bounds are the demand's). Bounds and formulas stand
 -- written out: nothing is taken from cell/specs/Draws or conversion/specs/Close. A structure draws a cell exactly where it passes (proofs/ToldLaws, AlikeLaws, DecidedLaws), so a clause
 -- that is weakened or added on one side alone is refused. Assumes nothing.
 use mathlib.Core.Bool.{Bool, true, false, not, _&&_}
@@ -84,13 +84,14 @@ transform r m a t =
 -- ---- elements
 
 -- what is drawn, by its kind
-abbrev pub byKind : (D.Shape → Tests) → (D.Path → Tests) → (D.Text ℕ Transform → Tests) → (D.Shape → Tests) → (D.Sref Transform → Tests) → (D.Aref Transform → Tests) → D.Body ℕ Transform → Tests
-byKind b p t n s a (D.boundary w) = b w
-byKind b p t n s a (D.path w) = p w
-byKind b p t n s a (D.text w) = t w
-byKind b p t n s a (D.node w) = n w
-byKind b p t n s a (D.sref w) = s w
-byKind b p t n s a (D.aref w) = a w
+abbrev pub byKind : (D.Shape → Tests) → (D.Path → Tests) → (D.Text ℕ Transform → Tests) → (D.Shape → Tests) → (D.Sref Transform → Tests) → (D.Aref Transform → Tests) → (D.Shape → Tests) → D.Body ℕ Transform → Tests
+byKind b p t n s a q (D.boundary w) = b w
+byKind b p t n s a q (D.path w) = p w
+byKind b p t n s a q (D.text w) = t w
+byKind b p t n s a q (D.node w) = n w
+byKind b p t n s a q (D.sref w) = s w
+byKind b p t n s a q (D.aref w) = a w
+byKind b p t n s a q (D.box w) = q w
 
 abbrev pub never : {A : Type 0} → A → Tests
 never a = false ∷ []
@@ -100,6 +101,16 @@ pathType t u = eqb t u ∷ []
 
 abbrev turnedBy : S.Reference → Option (Point Unit) → Point Float
 turnedBy e s = turned (e .sine) (e .cosine) (spacingAt s)
+
+-- five points, and tests of them
+abbrev pub five : (Point ℤ → Point ℤ → Point ℤ → Point ℤ → Point ℤ → Tests) → List (Point ℤ) → Bool
+five t [] = false
+five t (p0 ∷ []) = false
+five t (p0 ∷ p1 ∷ []) = false
+five t (p0 ∷ p1 ∷ p2 ∷ []) = false
+five t (p0 ∷ p1 ∷ p2 ∷ p3 ∷ []) = false
+five t (p0 ∷ p1 ∷ p2 ∷ p3 ∷ p4 ∷ []) = all (t p0 p1 p2 p3 p4)
+five t (p0 ∷ p1 ∷ p2 ∷ p3 ∷ p4 ∷ p5 ∷ ps) = false
 
 module _ (r : GdsRoundingPolicy) (d : Float) where
   abbrev pub coordinateBy : Option ℤ → Float → ℤ → Tests
@@ -169,13 +180,30 @@ module _ (r : GdsRoundingPolicy) (d : Float) where
       ∷ all (instances (e .columns) (e .rows) (physical (e .origin .y)) (turnedBy e (e .columnSpacing) .y) (turnedBy e (e .rowSpacing) .y) (w .origin .y) (w .columnStep .y) (w .rowStep .y))
       ∷ []
 
+  -- the first point near the first corner, the third near the second; from the one along x to the other's x, along y to it, and back: each leg leaves one coordinate as it was
+  abbrev pub corners : S.Box → Point ℤ → Point ℤ → Point ℤ → Point ℤ → Point ℤ → Tests
+  corners e p0 p1 p2 p3 p4 =
+      all (point (e .first) p0)
+      ∷ all (point (e .second) p2)
+      ∷ sameInt (p1 .y) (p0 .y)
+      ∷ sameInt (p1 .x) (p2 .x)
+      ∷ sameInt (p3 .y) (p2 .y)
+      ∷ sameInt (p3 .x) (p0 .x)
+      ∷ sameInt (p4 .x) (p0 .x)
+      ∷ sameInt (p4 .y) (p0 .y)
+      ∷ []
+
+  abbrev pub box : S.Box → D.Shape → Tests
+  box e w = eqb (e .layer) (w .layer) ∷ eqb (e .boxtype) (w .datatype) ∷ five (corners e) (w .points) ∷ []
+
   -- of the same kind
   abbrev pub body : S.Body → D.Body ℕ Transform → Tests
-  body (S.polygon e) = byKind (shape e) never never never never never
-  body (S.path e) = byKind never (path e) never never never never
-  body (S.text e) = byKind never never (text e) never never never
-  body (S.node e) = byKind never never never (shape e) never never
-  body (S.reference e) = byKind never never never never (sref e) (aref e)
+  body (S.polygon e) = byKind (shape e) never never never never never never
+  body (S.path e) = byKind never (path e) never never never never never
+  body (S.text e) = byKind never never (text e) never never never never
+  body (S.node e) = byKind never never never (shape e) never never never
+  body (S.reference e) = byKind never never never never (sref e) (aref e) never
+  body (S.box e) = byKind never never never never never never (box e)
 
   abbrev pub element : S.Element → Worth → Tests
   element e w = all (body (e .body) (w .body)) ∷ each property (e .properties) (w .properties) ∷ []

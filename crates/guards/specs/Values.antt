@@ -1,4 +1,4 @@
--- The cell that the sheet of specs/Sample holds, what its structure says and what it draws, written out by hand from the bytes (document 01, "Input" and "What a structure draws").
+-- The cell that the sheet of specs/Sample holds, what its structure says and what it draws, written out by hand from the bytes (document 01, "Input" and "What a structure draws"; the box: document 02, request 3).
 -- Assumes nothing.
 use mathlib.Core.Bool.{true, false}
 use mathlib.Core.Option.{none, some}
@@ -33,7 +33,7 @@ corner x y = at (whole (pos x)) (whole (pos y))
 abbrev spot : ℕ → ℕ → Point ℤ
 spot x y = at (pos x) (pos y)
 
--- "A", "B", "C"; "x", "yz", "abc"
+-- "A", "B", "C"; "x", "yz", "abc", "b"
 unfoldable pub cell : Cell
 cell =
     record {
@@ -63,6 +63,10 @@ cell =
           ∷ record {
             body = S.path (record { layer = 8; datatype = 9; pathType = none; width = none; begin = none; end = none; points = corner 1 2 ∷ corner 3 4 ∷ [] });
             properties = [];
+          }
+          ∷ record {
+            body = S.box (record { layer = 10; boxtype = 11; first = at (U.Float (bits 0x4015000000000000) one) (U.Integer (pos 3) (bits 0x4000000000000000)); second = at (whole (negsuc 1)) (whole (negsuc 2)) });
+            properties = record { attribute = 3; value = 98 ∷ [] } ∷ [];
           }
           ∷ [];
     }
@@ -95,6 +99,10 @@ structure =
           ∷ record {
             body = D.path (record { layer = 8; datatype = 9; pathType = none; width = none; begin = none; end = none; points = spot 1 2 ∷ spot 3 4 ∷ [] });
             properties = [];
+          }
+          ∷ record {
+            body = D.box (record { layer = 10; datatype = 11; points = spot 5 6 ∷ at (negsuc 1) (pos 6) ∷ at (negsuc 1) (negsuc 2) ∷ at (pos 5) (negsuc 2) ∷ spot 5 6 ∷ [] });
+            properties = record { attribute = 3; value = 98 ∷ 0 ∷ [] } ∷ [];
           }
           ∷ [];
     }
@@ -129,6 +137,10 @@ drawn =
           ∷ record {
             body = D.path (record { layer = 8; datatype = 9; pathType = none; width = none; begin = none; end = none; points = spot 1 2 ∷ spot 3 4 ∷ [] });
             properties = [];
+          }
+          ∷ record {
+            body = D.box (record { layer = 10; datatype = 11; points = spot 5 6 ∷ at (negsuc 1) (pos 6) ∷ at (negsuc 1) (negsuc 2) ∷ at (pos 5) (negsuc 2) ∷ spot 5 6 ∷ [] });
+            properties = record { attribute = 3; value = 98 ∷ [] } ∷ [];
           }
           ∷ [];
     }

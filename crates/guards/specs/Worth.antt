@@ -1,4 +1,4 @@
--- Elements as bytes, with what their records say and what that is worth, both by hand (document 01, "What a structure draws", its second and third paragraphs): what may be missing and what it is
+-- Elements as bytes, with what their records say and what that is worth, both by hand (document 01, "What a structure draws", its second and third paragraphs; boxes: document 02, request 3): what may be missing and what it is
 -- then, strings with their zero bytes, signs, steps. The rows together are the elements of one structure. Assumes nothing.
 use mathlib.Core.Bool.{Bool, true, false}
 use mathlib.Core.Option.{Option, none, some}
@@ -26,12 +26,18 @@ row b s w = record { bytes = b; said = s; worth = w }
 abbrev property : ℕ → List ℕ → D.Property
 property a v = record { attribute = a; value = v }
 
--- layer, type, points, properties
+-- kind; layer, type, points, properties
+abbrev shaped : {P T : Type 0} → (D.Shape → D.Body P T) → ℕ → ℕ → List (Point ℤ) → List D.Property → D.Element P T
+shaped k l t ps qs = record { body = k (record { layer = l; datatype = t; points = ps }); properties = qs }
+
 abbrev boundary : {P T : Type 0} → ℕ → ℕ → List (Point ℤ) → List D.Property → D.Element P T
-boundary l t ps qs = record { body = D.boundary (record { layer = l; datatype = t; points = ps }); properties = qs }
+boundary = shaped D.boundary
 
 abbrev node : {P T : Type 0} → ℕ → ℕ → List (Point ℤ) → List D.Property → D.Element P T
-node l t ps qs = record { body = D.node (record { layer = l; datatype = t; points = ps }); properties = qs }
+node = shaped D.node
+
+abbrev box : {P T : Type 0} → ℕ → ℕ → List (Point ℤ) → List D.Property → D.Element P T
+box = shaped D.box
 
 -- a path on layer 1, of type 2, of one point at 0, is worth what it says
 abbrev path : {P T : Type 0} → Option ℕ → Option ℤ → Option ℤ → Option ℤ → D.Element P T
@@ -89,6 +95,9 @@ rows =
     (boundary 65535 65534 (p (negsuc 0) (negsuc 2147483647) ∷ p (pos 2147483647) (pos 0) ∷ []) (property 65535 [] ∷ property 1 (120 ∷ []) ∷ property 2 (121 ∷ 122 ∷ []) ∷ property 1 (120 ∷ 121 ∷ []) ∷ [])) {- a polygon: 2-byte numbers unsigned, 4-byte signed; four properties, whose values are empty and have one, no and two zero bytes at the end -}
     ∷ row (x 24 0x0004080000060d02000000060e0200000004100300041100) (boundary 0 0 [] []) (boundary 0 0 [] []) {- a polygon of no point -}
     ∷ row (x 52 0x0004150000060d02000100062a02000200141003fffffffd0000000400000003fffffffc00062b02000700062c06616200041100) (node 1 2 (p (negsuc 2) (pos 4) ∷ p (pos 3) (negsuc 3) ∷ []) (property 7 (97 ∷ 98 ∷ []) ∷ [])) (node 1 2 (p (negsuc 2) (pos 4) ∷ p (pos 3) (negsuc 3) ∷ []) (property 7 (97 ∷ 98 ∷ []) ∷ [])) {- a node -}
+    ∷ row (x 76 0x00042d0000060d02ffff00062e02fffe002c10037fffffff80000000ffffffff80000000ffffffff000000017fffffff000000017fffffff8000000000062b02000900062c06620000041100) (box 65535 65534 (p (pos 2147483647) (negsuc 2147483647) ∷ p (negsuc 0) (negsuc 2147483647) ∷ p (negsuc 0) (pos 1) ∷ p (pos 2147483647) (pos 1) ∷ p (pos 2147483647) (negsuc 2147483647) ∷ []) (property 9 (98 ∷ 0 ∷ []) ∷ [])) (box 65535 65534 (p (pos 2147483647) (negsuc 2147483647) ∷ p (negsuc 0) (negsuc 2147483647) ∷ p (negsuc 0) (pos 1) ∷ p (pos 2147483647) (pos 1) ∷ p (pos 2147483647) (negsuc 2147483647) ∷ []) (property 9 (98 ∷ []) ∷ [])) {- a box: 2-byte numbers unsigned, 4-byte signed -}
+    ∷ row (x 40 0x00042d0000060d02000100062e02000200141003fffffffd0000000400000003fffffffc00041100) (box 1 2 (p (negsuc 2) (pos 4) ∷ p (pos 3) (negsuc 3) ∷ []) []) (box 1 2 (p (negsuc 2) (pos 4) ∷ p (pos 3) (negsuc 3) ∷ []) []) {- a box of two points, which no two corners give: that is not asked here -}
+    ∷ row (x 24 0x00042d0000060d02000000062e0200000004100300041100) (box 0 0 [] []) (box 0 0 [] []) {- of no point -}
     ∷ pathed (x 32 0x0004090000060d02000100060e020002000c1003000000000000000000041100) none none none none {- a path with nothing that may be missing -}
     ∷ pathed (x 62 0x0004090000060d02000100060e02000200062102000200080f03fffffffb000830030000000600083103fffffff9000c1003000000000000000000041100) (some 2) (some (negsuc 4)) (some (pos 6)) (some (negsuc 6)) {- with all of it, two lengths below 0 -}
     ∷ pathed (x 38 0x0004090000060d02000100060e020002000621020004000c1003000000000000000000041100) (some 4) none none none {- PATHTYPE alone -}

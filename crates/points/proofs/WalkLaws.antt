@@ -20,16 +20,17 @@ use Rattle.conversion.specs.declared.GdsRoundingPolicy.{GdsRoundingPolicy}
 use Rattle.conversion.specs.Made.{Made, made}
 use Rattle.conversion.specs.code.Fold.{blankEntry, run}
 use Rattle.conversion.specs.Points.{writePoint, writePoints}
-use Rattle.conversion.proofs.FoldLaws.{run-bind, run-pure, run-map, run-same}
+use Rattle.conversion.proofs.FoldLaws.{run-pure, run-same}
 use Rattle.conversion.proofs.MadeLaws.{steps}
 use Rattle.stream.specs.Records.{longBytes, pointsBytes}
 use Rattle.steps.specs.code.Steps.{Succeeds}
-use Rattle.steps.proofs.StepLaws.{run-through, yields, succeeds, written, putting}
+use Rattle.steps.proofs.StepLaws.{yields, succeeds, written, putting}
 use Rattle.forms.specs.code.Place.{valuesFrom, pointAt, pointsFrom}
 use Rattle.coordinate.specs.declared.Pointed.{Pointed}
 use Rattle.coordinate.specs.declared.Pointed.the-variants as P
 use Rattle.coordinate.specs.code.Coordinate.{pointed, GivesPoint}
 use Rattle.coordinate.proofs.ValueLaws.{same-point}
+use Rattle.coordinate.proofs.TurnLaws.{spread, turn, first-met}
 
 -- a point by its bits, as code has it between two calls
 abbrev pub pointOf : ℕ → ℕ → Point ℤ
@@ -53,28 +54,17 @@ points-next n i s at h = ap (λ (j : ℕ). pointsFrom j s at) (go n i h)
 -- ---- what is left after a point
 
 module _ {R : Type 0} (stop : Refusal → R) where
-  abbrev spread : (Point ℤ → Entry → R) → Pointed → R
-  spread k (P.Refused x) = stop x
-  spread k (P.At x y e) = k (record { x = x; y = y }) e
-
   module _ (policy : GdsRoundingPolicy) (d : Float) where
-    turn : (e : Entry) (i : ℕ) (p : Point Unit) (ps : List (Point Unit)) (k : List (Point ℤ) → Entry → R)
-        → run stop e (writePoints policy d i (p ∷ ps)) k ≡ run stop e (writePoint policy d 0 i p) (λ q e′. run stop e′ (writePoints policy d (suc i) ps) (λ qs e″. k (q ∷ qs) e″))
-    unfolding writePoints
-    turn e i p ps k =
-        run-bind stop e (writePoint policy d 0 i p) _ k
-        ∙ run-same stop e (writePoint policy d 0 i p) _ _ (λ q e′. run-map stop e′ (writePoints policy d (suc i) ps) (λ qs. q ∷ qs) k)
-
     -- as many points come out as go in: what follows may count on it
     pub run-counted : (i : ℕ) (ps : List (Point Unit)) (e : Entry) (k l : List (Point ℤ) → Entry → R) → ((qs : List (Point ℤ)) (e′ : Entry) → length qs ≡ length ps → k qs e′ ≡ l qs e′)
         → run stop e (writePoints policy d i ps) k ≡ run stop e (writePoints policy d i ps) l
     unfolding writePoints
     run-counted i [] e k l h = run-pure stop e [] k ∙ h [] e refl ∙ sym (run-pure stop e [] l)
     run-counted i (p ∷ ps) e k l h =
-        turn e i p ps k
+        turn stop policy d e i p ps k
         ∙ run-same stop e (writePoint policy d 0 i p) _ _
         (λ q e′. run-counted (suc i) ps e′ (λ qs e″. k (q ∷ qs) e″) (λ qs e″. l (q ∷ qs) e″) (λ qs e″ g. h (q ∷ qs) e″ (ap suc g)))
-        ∙ sym (turn e i p ps l)
+        ∙ sym (turn stop policy d e i p ps l)
 
     module _ (n i : ℕ) (s : List ℕ) (at : ℕ) (e : Entry) (k : List (Point ℤ) → Entry → R) where
       points-end : n ≤ i → pointsFrom (n - i) s at ≡ []
@@ -87,23 +77,21 @@ module _ {R : Type 0} (stop : Refusal → R) where
       abbrev next : Point ℤ → Entry → R
       next q e′ = run stop e′ (writePoints policy d (i + 1) (pointsFrom (n - (i + 1)) s (at + 34))) (λ qs e″. k (q ∷ qs) e″)
 
-      met : i < n → (r : Pointed) → GivesPoint e (writePoint policy d 0 i (pointAt s at)) r → run stop e (writePoints policy d i (pointsFrom (n - i) s at)) k ≡ spread next r
+      met : i < n → (r : Pointed) → GivesPoint e (writePoint policy d 0 i (pointAt s at)) r → run stop e (writePoints policy d i (pointsFrom (n - i) s at)) k ≡ spread stop next r
       met h r c =
           ap (λ (ps : List (Point Unit)). run stop e (writePoints policy d i ps) k) (points-next n i s at h)
-          ∙ turn e i (pointAt s at) (pointsFrom (n - (i + 1)) s (at + 34)) k
-          ∙ ap (λ (j : ℕ). run stop e (writePoint policy d 0 i (pointAt s at)) (λ q e′. run stop e′ (writePoints policy d j (pointsFrom (n - (i + 1)) s (at + 34))) (λ qs e″. k (q ∷ qs) e″))) (go i)
-          ∙ sym (run-through P.Refused pointed (spread next) stop next (λ x. refl) (λ q e′. refl) e (writePoint policy d 0 i (pointAt s at)))
-          ∙ ap (spread next) (sym (c .is))
+          ∙ first-met stop policy d e i (pointAt s at) (pointsFrom (n - (i + 1)) s (at + 34)) k r c
+          ∙ ap (λ (j : ℕ). spread stop (λ q e′. run stop e′ (writePoints policy d j (pointsFrom (n - (i + 1)) s (at + 34))) (λ qs e″. k (q ∷ qs) e″)) r) (go i)
         where
           go : (i : ℕ) → suc i ≡ i + 1
           go i = omega arith
 
       pub go-on : i < n → (r : Pointed) → GivesPoint e (writePoint policy d 0 i (pointAt s at)) r → (x y : ℤ) (e2 : Entry) → r ≡ P.At x y e2
           → run stop e (writePoints policy d i (pointsFrom (n - i) s at)) k ≡ run stop e2 (writePoints policy d (i + 1) (pointsFrom (n - (i + 1)) s (at + 34))) (λ qs e′. k (record { x = x; y = y } ∷ qs) e′)
-      go-on h r c x y e2 g = met h r c ∙ ap (spread next) g
+      go-on h r c x y e2 g = met h r c ∙ ap (spread stop next) g
 
       pub go-stop : i < n → (r : Pointed) → GivesPoint e (writePoint policy d 0 i (pointAt s at)) r → (x : Refusal) → r ≡ P.Refused x → run stop e (writePoints policy d i (pointsFrom (n - i) s at)) k ≡ stop x
-      go-stop h r c x g = met h r c ∙ ap (spread next) g
+      go-stop h r c x g = met h r c ∙ ap (spread stop next) g
 
       pub go-end : n ≤ i → run stop e (writePoints policy d i (pointsFrom (n - i) s at)) k ≡ k [] e
       unfolding writePoints

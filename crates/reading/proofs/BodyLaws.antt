@@ -53,10 +53,10 @@ unfolding need
 need-none t r e = ap (λ (b : Bool). refusalIn (need b r)) e
 
 -- one number of a record, at most m
-word-passes : (m n : ℕ) (r : Refusal) → Word n → n ≤ m → refusalIn (need (leb (number (bytesOf 2 n)) m) r) ≡ none
+pub word-passes : (m n : ℕ) (r : Refusal) → Word n → n ≤ m → refusalIn (need (leb (number (bytesOf 2 n)) m) r) ≡ none
 word-passes m n r w h = need-none _ r (ap (λ (k : ℕ). leb k m) (word-back n w) ∙ le-leb n m h)
 
-layer-passes : (kind n : ℕ) → Limited maxLayer n → Passes kind 0 (wordRecord LAYER n)
+pub layer-passes : (kind n : ℕ) → Limited maxLayer n → Passes kind 0 (wordRecord LAYER n)
 unfolding recordLimit
 layer-passes kind n h = word-passes maxLayer n R.LayerOrType (h .word) (h .most)
 
@@ -72,7 +72,7 @@ pub xy-passes : (kind : ℕ) (ps : List (Point ℤ)) → All FitPoint ps → ref
 unfolding recordLimit
 xy-passes kind ps h e = ap (λ (qs : List (Point ℤ)). refusalIn (pointsLimit kind qs)) (points-back ps h) ∙ e
 
-layered : (l t : ℕ) → l ≤ maxLayer → t ≤ maxDataType → layerAndType l t ≡ pure tt
+pub layered : (l t : ℕ) → l ≤ maxLayer → t ≤ maxDataType → layerAndType l t ≡ pure tt
 unfolding layerAndType need
 layered l t h k = need-on (leb l maxLayer) R.LayerOrType _ (le-leb l maxLayer h) ∙ ap (λ (b : Bool). need b R.LayerOrType) (le-leb t maxDataType k)
 
@@ -92,7 +92,7 @@ points-count (p ∷ ps) = ap suc (points-count ps)
 points-fine : (ps : List (Point ℤ)) → All FitPoint ps → length ps ≤ maxPoints → Counted FinePoint (pointsRead ps)
 points-fine ps h l = record { each = points-each ps h; count = omega (arith, points-count ps) }
 
-points-write : (k : ℕ) (ps : List (Point ℤ)) → writePoints Nearest one64 k (pointsRead ps) ≡ pure ps
+pub points-write : (k : ℕ) (ps : List (Point ℤ)) → writePoints Nearest one64 k (pointsRead ps) ≡ pure ps
 unfolding writePoints
 points-write k [] = refl
 points-write k (p ∷ ps) = then-pure _ (point-one Nearest _ k p) (then-pure _ (points-write (suc k) ps) refl)

@@ -30,6 +30,7 @@ use Rattle.reading.proofs.RealLaws.{Passes}
 use Rattle.reading.proofs.Canon.{CanonBody, CanonElement}
 use Rattle.reading.proofs.BodyLaws.{need-none, string-fine, boundary-canon, node-canon, path-canon, text-canon}
 use Rattle.reading.proofs.ReferenceLaws.{sref-canon, aref-canon}
+use Rattle.reading.proofs.BoxLaws.{box-canon}
 
 body-canon : (w : SaidBody) → KeptBody w → CanonBody w
 body-canon (D.boundary e) (K.boundary h) = boundary-canon e h
@@ -38,6 +39,7 @@ body-canon (D.text e) (K.text h) = text-canon e h
 body-canon (D.node e) (K.node h) = node-canon e h
 body-canon (D.sref e) (K.sref h) = sref-canon e h
 body-canon (D.aref e) (K.aref h) = aref-canon e h
+body-canon (D.box e) (K.box h) = box-canon e h
 
 -- ---- properties
 
@@ -73,6 +75,7 @@ first-passes (D.text e) i h = need-none _ R.Pairs (lt-ltb (suc i) maxPairs h)
 first-passes (D.node e) i h = need-none _ R.Pairs (lt-ltb (suc i) maxPairs h)
 first-passes (D.sref e) i h = need-none _ R.Pairs (lt-ltb (suc i) maxPairs h)
 first-passes (D.aref e) i h = need-none _ R.Pairs (lt-ltb (suc i) maxPairs h)
+first-passes (D.box e) i h = need-none _ R.Pairs (lt-ltb (suc i) maxPairs h)
 
 pub element-canon : (e : Said) → KeptElement e → CanonElement e
 unfolding writeElement

@@ -27,12 +27,13 @@ use Rattle.gds_format.specs.Decode.{doubleOf}
 use Rattle.conversion.specs.Made.{Made, Done, refused, made, need, _>>=_, _>>_}
 use Rattle.conversion.specs.Made as Made
 use Rattle.sheet.specs.Element.{maxPathType}
-use Rattle.stream.specs.Record.{Rec, manual, ofManual, BGNSTR, STRNAME, BOUNDARY, PATH, NODE, LAYER, DATATYPE, WIDTH, XY, SNAME, COLROW, TEXTTYPE, PRESENTATION, STRING, MAG, ANGLE, PATHTYPE, NODETYPE, PROPATTR, PROPVALUE, BGNEXTN, ENDEXTN}
+use Rattle.stream.specs.Record.{Rec, manual, ofManual, BGNSTR, STRNAME, BOUNDARY, PATH, NODE, BOX, LAYER, DATATYPE, WIDTH, XY, SNAME, COLROW, TEXTTYPE, PRESENTATION, STRING, MAG, ANGLE, PATHTYPE, NODETYPE, BOXTYPE, PROPATTR, PROPVALUE, BGNEXTN, ENDEXTN}
 use Rattle.stream.specs.Read.{Fault, unless, item, optional, each, long, pointOf, pointsOf, stampsOf}
 use Rattle.stream.proofs.RecordLaws.{Good}
 use Rattle.stream.proofs.Fit.{Even, Real, Word, Long, FitPoint}
 use Rattle.cell.specs.Limits.{within, minPolygonPoints, minPathPoints, minNodePoints, maxPoints, maxNodePoints, maxLayer, maxDataType, maxStringLength, maxValueLength, maxColRow}
 use Rattle.cell.specs.Write.{writeMagnification, writeAngle, closed}
+use Rattle.reading.specs.Box.{isBox}
 use Rattle.reading.specs.Limits.{realLimit, pointsLimit, isPresentation, maxProperties, recordLimit, refusalIn, sheetLimits}
 use Rattle.reading.proofs.Kept.{Limited, Named, Short, Written, Several, Stamped}
 
@@ -127,6 +128,10 @@ module _ (kind i : ℕ) (b : List ℕ) where
   pub nodetype-of : Item kind i NODETYPE b → Limited maxDataType (number b)
   unfolding ofManual manual recordLimit
   nodetype-of x = limited-of maxDataType R.LayerOrType (size-is 2 2 (x .dataType) b (x .good .manual)) (x .good .bytes) (x .admitted)
+
+  pub boxtype-of : Item kind i BOXTYPE b → Limited maxDataType (number b)
+  unfolding ofManual manual recordLimit
+  boxtype-of x = limited-of maxDataType R.LayerOrType (size-is 2 2 (x .dataType) b (x .good .manual)) (x .good .bytes) (x .admitted)
 
   pub pathtype-of : Item kind i PATHTYPE b → number b ≤ maxPathType
   unfolding recordLimit
@@ -256,6 +261,10 @@ path-limit ps e = need-passed _ _ e
 pub node-limit : (ps : List (Point ℤ)) → refusalIn (pointsLimit NODE ps) ≡ none → T (within minNodePoints (length ps) maxNodePoints)
 unfolding pointsLimit
 node-limit ps e = need-passed _ _ e
+
+pub box-limit : (ps : List (Point ℤ)) → refusalIn (pointsLimit BOX ps) ≡ none → T (isBox ps)
+unfolding pointsLimit
+box-limit ps e = need-passed _ _ e
 
 -- ---- columns and rows, stamps
 

@@ -12,7 +12,7 @@ use Rattle.conversion.specs.Made.{Made}
 use Rattle.conversion.proofs.WholeLaws.{InRange}
 use Rattle.sheet.specs.Blocks.{maxPairs}
 use Rattle.sheet.specs.Element.{maxPathType}
-use Rattle.stream.specs.Record.{BOUNDARY, NODE}
+use Rattle.stream.specs.Record.{BOUNDARY, NODE, BOX}
 use Rattle.stream.specs.Records.{endpointOf}
 use Rattle.stream.specs.Strings.{unpadded}
 use Rattle.stream.specs.Structure.{Property, Strans, Shape, Path, Text, Sref, Aref, SaidBody, Said, Structure}
@@ -101,6 +101,7 @@ pub data KeptBody : SaidBody → Type 0 where
   node : {e : Shape} → KeptShape NODE e → KeptBody (D.node e)
   sref : {e : Sref (Option Strans)} → KeptSref e → KeptBody (D.sref e)
   aref : {e : Aref (Option Strans)} → KeptAref e → KeptBody (D.aref e)
+  box : {e : Shape} → KeptShape BOX e → KeptBody (D.box e)
 
 pub record KeptProperty (q : Property) : Type 0 where
   pub attribute : Word (q .attribute)

@@ -20,7 +20,7 @@ use Rattle.conversion.specs.Made.{Made, Done}
 use Rattle.conversion.specs.Convert.{inRange}
 use Rattle.conversion.proofs.WholeLaws.{InRange}
 use Rattle.sheet.specs.Blocks.{maxPairs}
-use Rattle.stream.specs.Record.{Rec, BGNSTR, STRNAME, ENDSTR, BOUNDARY, PATH, SREF, AREF, TEXT, NODE, LAYER, DATATYPE, NODETYPE, TEXTTYPE, PRESENTATION, XY, STRING, SNAME, COLROW, STRANS, MAG, ANGLE, PATHTYPE, WIDTH, BGNEXTN, ENDEXTN, PROPATTR, PROPVALUE, ENDEL, runOf}
+use Rattle.stream.specs.Record.{Rec, BGNSTR, STRNAME, ENDSTR, BOUNDARY, PATH, SREF, AREF, TEXT, NODE, BOX, LAYER, DATATYPE, NODETYPE, BOXTYPE, TEXTTYPE, PRESENTATION, XY, STRING, SNAME, COLROW, STRANS, MAG, ANGLE, PATHTYPE, WIDTH, BGNEXTN, ENDEXTN, PROPATTR, PROPVALUE, ENDEL, runOf}
 use Rattle.stream.specs.Records.{endpointOf}
 use Rattle.stream.specs.Structure.{Property, SaidBody, Said, Structure}
 use Rattle.stream.specs.Structure as D
@@ -32,7 +32,7 @@ use Rattle.cell.specs.Limits.{maxDataType}
 use Rattle.reading.specs.Limits.{maxProperties, recordLimit, stepLimit, refusalIn, sheetLimits}
 use Rattle.reading.proofs.Kept.{Limited, Several, KeptStrans, KeptShape, KeptPath, KeptText, KeptSref, KeptAref, KeptBody, KeptProperty, KeptElement, KeptStructure}
 use Rattle.reading.proofs.Kept as K
-use Rattle.reading.proofs.ItemLaws.{Item, Goods, item-gives, optional-gives, need-passed, layer-of, datatype-of, nodetype-of, texttype-of, pathtype-of, presentation-of, width-of, begin-of, end-of, attribute-of, mag-of, angle-of, sname-of, strname-of, string-of, value-of, xy-of, xy-limit, path-limit, colrow-of, stamps-of}
+use Rattle.reading.proofs.ItemLaws.{Item, Goods, item-gives, optional-gives, need-passed, layer-of, datatype-of, nodetype-of, boxtype-of, texttype-of, pathtype-of, presentation-of, width-of, begin-of, end-of, attribute-of, mag-of, angle-of, sname-of, strname-of, string-of, value-of, xy-of, xy-limit, path-limit, colrow-of, stamps-of}
 
 -- ---- readers fed good records
 
@@ -203,7 +203,8 @@ body-gives kind =
     (by NODE (λ k. map D.node (shapeBody sheetLimits k NODETYPE)) (gives-map Goods D.node _ (shape-gives NODE NODETYPE (nodetype-of NODE 0)) (λ e h. K.node h))
     (by SREF (λ k. map D.sref (srefBody sheetLimits k)) (gives-map Goods D.sref _ sref-gives (λ e h. K.sref h))
     (by AREF (λ k. map D.aref (arefBody sheetLimits k)) (gives-map Goods D.aref _ aref-gives (λ e h. K.aref h))
-    (gives-fail Goods notOfGrammar))))))
+    (by BOX (λ k. map D.box (shapeBody sheetLimits k BOXTYPE)) (gives-map Goods D.box _ (shape-gives BOX BOXTYPE (boxtype-of BOX 0)) (λ e h. K.box h))
+    (gives-fail Goods notOfGrammar)))))))
   where
     -- where the kind is c, what holds of c
     by : (c : ℕ) (p : ℕ → Reader SaidBody) {q : Reader SaidBody} → Gives Goods (p c) KeptBody → Gives Goods q KeptBody → Gives Goods (cond (eqb kind c) (p kind) q) KeptBody

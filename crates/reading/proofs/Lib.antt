@@ -6,5 +6,6 @@ pub mod RealLaws
 pub mod Canon
 pub mod BodyLaws
 pub mod ReferenceLaws
+pub mod BoxLaws
 pub mod ElementLaws
 pub mod TripLaws

@@ -17,6 +17,7 @@ use Rattle.stream.specs.Strings.{unpadded}
 use Rattle.stream.specs.Structure as D
 use Rattle.stream.specs.Read.{mapOption}
 use Rattle.stream.specs.Drawn.{presentationOf, onlyInstance}
+use Rattle.reading.specs.Box.{firstPoint, thirdPoint}
 
 -- ---- "Coordinates and lengths become integers in a unit of 1."
 
@@ -114,6 +115,10 @@ arrayRead e = record {
 unfoldable pub arefRead : D.Aref (Option D.Strans) → S.Reference
 arefRead e = cond (eqb (e .columns) 1 && eqb (e .rows) 1) (srefRead (onlyInstance e)) (arrayRead e)
 
+-- "a box gets its first and third points"
+abbrev pub boxRead : D.Shape → S.Box
+boxRead e = record { layer = e .layer; boxtype = e .datatype; first = integerPoint (firstPoint (e .points)); second = integerPoint (thirdPoint (e .points)) }
+
 abbrev pub bodyRead : D.SaidBody → S.Body
 bodyRead (D.boundary e) = S.polygon (shapeRead e)
 bodyRead (D.path e) = S.path (pathRead e)
@@ -121,6 +126,7 @@ bodyRead (D.text e) = S.text (textRead e)
 bodyRead (D.node e) = S.node (shapeRead e)
 bodyRead (D.sref e) = S.reference (srefRead e)
 bodyRead (D.aref e) = S.reference (arefRead e)
+bodyRead (D.box e) = S.box (boxRead e)
 
 -- ---- elements and the cell
 

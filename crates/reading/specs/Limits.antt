@@ -17,13 +17,14 @@ use Rattle.conversion.specs.Made.{Made, Done, refused, made, pure, need, _>>_}
 use Rattle.conversion.specs.Convert.{inRange}
 use Rattle.sheet.specs.Blocks.{maxPairs}
 use Rattle.sheet.specs.Element.{maxPathType}
-use Rattle.stream.specs.Record.{Rec, BGNSTR, STRNAME, BOUNDARY, PATH, LAYER, DATATYPE, XY, SNAME, COLROW, NODE, PRESENTATION, STRING, MAG, ANGLE, PATHTYPE, NODETYPE, PROPATTR, PROPVALUE}
+use Rattle.stream.specs.Record.{Rec, BGNSTR, STRNAME, BOUNDARY, PATH, LAYER, DATATYPE, XY, SNAME, COLROW, NODE, PRESENTATION, STRING, MAG, ANGLE, PATHTYPE, NODETYPE, PROPATTR, PROPVALUE, BOX, BOXTYPE}
 use Rattle.stream.specs.Strings.{unpadded}
 use Rattle.stream.specs.Read.{stampsOf, pointsOf, Limits, begins}
 use Rattle.cell.specs.Limits.{within, minPolygonPoints, minPathPoints, minNodePoints, maxPoints, maxNodePoints, maxLayer, maxDataType, maxStringLength, maxValueLength, maxColRow}
 use Rattle.cell.specs.Names.{isName}
 use Rattle.cell.specs.Stamps.{stampsFit}
 use Rattle.cell.specs.Write.{writeMagnification, writeAngle, closed}
+use Rattle.reading.specs.Box.{isBox}
 
 -- ---- parts of the checks
 
@@ -32,13 +33,14 @@ unfoldable pub realLimit : {A : Type 0} → (Float → Made A) → Option Float 
 realLimit write none = refused R.InexactReal
 realLimit write (some x) = write x >> pure tt
 
--- 8, and a polygon's ends, 20. How many points a TEXT, an SREF and an AREF have is the grammar's.
+-- 8, and a polygon's ends, 20; "a BOX that no two corners give" is 28. How many points a TEXT, an SREF and an AREF have is the grammar's.
 unfoldable pub pointsLimit : ℕ → List (Point ℤ) → Made Done
 pointsLimit kind ps =
     cond (eqb kind BOUNDARY) (need (within minPolygonPoints (length ps) maxPoints) R.PointCount >> need (closed ps) R.NotClosed)
     (cond (eqb kind PATH) (need (within minPathPoints (length ps) maxPoints) R.PointCount)
     (cond (eqb kind NODE) (need (within minNodePoints (length ps) maxNodePoints) R.PointCount)
-    (pure tt)))
+    (cond (eqb kind BOX) (need (isBox ps) R.NotStructure)
+    (pure tt))))
 
 -- "a PRESENTATION that our nine pairs do not give": 4 × vertical + horizontal, both 0 to 2
 abbrev pub isPresentation : ℕ → Bool
@@ -60,7 +62,7 @@ recordLimit kind i r =
     (cond (is BGNSTR) (need (stampsFit (stampsOf b)) R.Stamp)
     (cond (is STRNAME || is SNAME) (need (isName (unpadded b)) R.Name)
     (cond (is LAYER) (need (leb (number b) maxLayer) R.LayerOrType)
-    (cond (is DATATYPE || is NODETYPE) (need (leb (number b) maxDataType) R.LayerOrType)
+    (cond (is DATATYPE || is NODETYPE || is BOXTYPE) (need (leb (number b) maxDataType) R.LayerOrType)
     -- "Path types above 2 .. are 28"
     (cond (is PATHTYPE) (need (leb (number b) maxPathType) R.NotStructure)
     (cond (is PRESENTATION) (need (isPresentation (number b)) R.NotStructure)

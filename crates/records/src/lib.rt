@@ -86,6 +86,10 @@ pub const PROPATTR: u8 = 0x2b;
 
 pub const PROPVALUE: u8 = 0x2c;
 
+pub const BOX: u8 = 0x2d;
+
+pub const BOXTYPE: u8 = 0x2e;
+
 pub const BGNEXTN: u8 = 0x30;
 
 pub const ENDEXTN: u8 = 0x31;

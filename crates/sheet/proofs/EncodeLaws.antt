@@ -23,12 +23,12 @@ use Rattle.units.specs.declared.Unit.{Unit}
 use Rattle.units.specs.declared.Unit.the-variants as U
 use Rattle.units.specs.Point.{Point}
 use Rattle.sheet.specs.Form.{Form, bytes, num, code, flag, double, string, counted, integerKind, doubleKind, integerLimit, coordinateOf, coordinate, point, spacingOf, spacing}
-use Rattle.sheet.specs.Element.{Property, Head, Shape, Path, Text, Reference, Body, Element, kindOf, maxPathType, property, headForm, shapeForm, pathTypeForm, pathForm, textForm, referenceForm, bodyForm, elementForm, headOf, elementOf}
+use Rattle.sheet.specs.Element.{Property, Head, Shape, Path, Text, Reference, Box, Body, Element, kindOf, maxPathType, property, headForm, shapeForm, pathTypeForm, pathForm, textForm, referenceForm, boxForm, bodyForm, elementForm, headOf, elementOf}
 use Rattle.sheet.specs.Element as S
 use Rattle.sheet.specs.Blocks.{maxPairs, pairCount, pairsFit, blockOf, blocksFrom}
 use Rattle.sheet.specs.Cell.{Cell, consTo, elementsOf, cellFrom, elementBlocks, cellOf}
-use Rattle.sheet.specs.Encode.{countedBytes, stringBytes, doubleBytes, flagBytes, unitBytes, coordinateBytes, pointBytes, spacingBytes, propertyBytes, headBlock, shapeBytes, pathTypeByte, pathBytes, textBytes, referenceBytes, bodyBytes, elementBlock, blocksOf, cellSheet}
-use Rattle.sheet.proofs.Fine.{Word, Double, FineString, Counted, FineUnit, integer, float, FinePoint, FineProperty, FineHead, FineShape, FinePath, FineText, FineReference, FineBody, FineElement}
+use Rattle.sheet.specs.Encode.{countedBytes, stringBytes, doubleBytes, flagBytes, unitBytes, coordinateBytes, pointBytes, spacingBytes, propertyBytes, headBlock, shapeBytes, pathTypeByte, pathBytes, textBytes, referenceBytes, boxBytes, bodyBytes, elementBlock, blocksOf, cellSheet}
+use Rattle.sheet.proofs.Fine.{Word, Double, FineString, Counted, FineUnit, integer, float, FinePoint, FineProperty, FineHead, FineShape, FinePath, FineText, FineReference, FineBox, FineBody, FineElement}
 use Rattle.sheet.proofs.Fine as F
 use Rattle.sheet.proofs.BlocksLaws.{Some, FitBlocks, count-is, pairs-fit, blocks-back}
 
@@ -184,6 +184,13 @@ reference-back e rest h =
     (rw (append-assoc (spacingBytes (e .columnSpacing))) (then _ (spacing-back (e .columnSpacing) _ (h .columnSpacing))
     (then _ (spacing-back (e .rowSpacing) rest (h .rowSpacing)) refl)))))))))))))
 
+box-back : (e : Box) (rest : List ℕ) → FineBox e → boxForm (boxBytes e ++ rest) ≡ part e rest
+unfolding boxForm boxBytes
+box-back e rest h =
+    then _ (word-back (e .layer) _ (h .layer)) (then _ (word-back (e .boxtype) _ (h .boxtype))
+    (rw (append-assoc (pointBytes (e .first))) (then _ (point-back (e .first) _ (h .first))
+    (then _ (point-back (e .second) rest (h .second)) refl))))
+
 body-back : (b : Body) (rest : List ℕ) → FineBody b → bodyForm (kindOf b) (bodyBytes b ++ rest) ≡ part b rest
 unfolding bodyForm
 body-back (S.polygon e) rest (F.polygon h) = then _ (shape-back e rest h) refl
@@ -191,6 +198,7 @@ body-back (S.path e) rest (F.path h) = then _ (path-back e rest h) refl
 body-back (S.text e) rest (F.text h) = then _ (text-back e rest h) refl
 body-back (S.node e) rest (F.node h) = then _ (shape-back e rest h) refl
 body-back (S.reference e) rest (F.reference h) = then _ (reference-back e rest h) refl
+body-back (S.box e) rest (F.box h) = then _ (box-back e rest h) refl
 
 -- ---- whole blocks
 

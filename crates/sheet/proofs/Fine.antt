@@ -13,7 +13,7 @@ use Rattle.parsing.specs.All.{All, Opt}
 use Rattle.units.specs.declared.Unit.{Unit}
 use Rattle.units.specs.declared.Unit.the-variants as U
 use Rattle.units.specs.Point.{Point}
-use Rattle.sheet.specs.Element.{Property, Head, Shape, Path, Text, Reference, Body, Element, maxPathType}
+use Rattle.sheet.specs.Element.{Property, Head, Shape, Path, Text, Reference, Box, Body, Element, maxPathType}
 use Rattle.sheet.specs.Element as S
 use Rattle.sheet.specs.Library.{LibraryHead}
 
@@ -93,12 +93,19 @@ pub record FineReference (e : Reference) : Type 0 where
   pub columnSpacing : Opt FinePoint (e .columnSpacing)
   pub rowSpacing : Opt FinePoint (e .rowSpacing)
 
+pub record FineBox (e : Box) : Type 0 where
+  pub layer : Word (e .layer)
+  pub boxtype : Word (e .boxtype)
+  pub first : FinePoint (e .first)
+  pub second : FinePoint (e .second)
+
 pub data FineBody : Body → Type 0 where
   polygon : {e : Shape} → FineShape e → FineBody (S.polygon e)
   path : {e : Path} → FinePath e → FineBody (S.path e)
   text : {e : Text} → FineText e → FineBody (S.text e)
   node : {e : Shape} → FineShape e → FineBody (S.node e)
   reference : {e : Reference} → FineReference e → FineBody (S.reference e)
+  box : {e : Box} → FineBox e → FineBody (S.box e)
 
 pub record FineElement (e : Element) : Type 0 where
   pub body : FineBody (e .body)

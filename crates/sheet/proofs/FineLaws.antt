@@ -22,10 +22,10 @@ use Rattle.parsing.proofs.ParseLaws.{items-is, no-part, Gives, gives-pure, give
 use Rattle.units.specs.declared.Unit.{Unit}
 use Rattle.units.specs.declared.Unit.the-variants as U
 use Rattle.sheet.specs.Form.{Form, integerKind, doubleKind, absentKind, integerLimit, bytes, num, code, flag, double, string, counted, coordinateOf, coordinate, point, spacingOf, spacing}
-use Rattle.sheet.specs.Element.{Head, Element, polygonKind, pathKind, textKind, nodeKind, referenceKind, maxPathType, property, headForm, shapeForm, pathTypeForm, pathForm, textForm, referenceForm, bodyForm, elementForm, headOf, elementOf}
+use Rattle.sheet.specs.Element.{Head, Element, polygonKind, pathKind, textKind, nodeKind, referenceKind, boxKind, maxPathType, property, headForm, shapeForm, pathTypeForm, pathForm, textForm, referenceForm, boxForm, bodyForm, elementForm, headOf, elementOf}
 use Rattle.sheet.specs.Element as S
 use Rattle.sheet.specs.Library.{LibraryHead, libraryHeadForm, libraryHeadOf}
-use Rattle.sheet.proofs.Fine.{Word, Double, FineString, Counted, FineUnit, integer, float, FinePoint, FineProperty, FineHead, FineLibraryHead, FineShape, FinePath, FineText, FineReference, FineBody, FineElement}
+use Rattle.sheet.proofs.Fine.{Word, Double, FineString, Counted, FineUnit, integer, float, FinePoint, FineProperty, FineHead, FineLibraryHead, FineShape, FinePath, FineText, FineReference, FineBox, FineBody, FineElement}
 use Rattle.sheet.proofs.Fine as F
 
 -- n bytes
@@ -214,6 +214,15 @@ reference-gives =
       rowSpacing = hsr;
     }))))))))))))
 
+box-gives : Gives Bytes boxForm FineBox
+unfolding boxForm
+box-gives =
+    bind (num-gives 2)
+    (λ l hl. bind (num-gives 2)
+    (λ t ht. bind point-gives
+    (λ p hp. bind point-gives
+    (λ q hq. gives-pure Bytes _ (record { layer = hl; boxtype = ht; first = hp; second = hq })))))
+
 body-gives : (k : ℕ) → Gives Bytes (bodyForm k) FineBody
 unfolding bodyForm
 body-gives k =
@@ -222,7 +231,8 @@ body-gives k =
     (either (eqb k textKind) (gives-map Bytes S.text textForm text-gives (λ e h. F.text h))
     (either (eqb k nodeKind) (gives-map Bytes S.node shapeForm shape-gives (λ e h. F.node h))
     (either (eqb k referenceKind) (gives-map Bytes S.reference referenceForm reference-gives (λ e h. F.reference h))
-    (gives-fail Bytes illFormed)))))
+    (either (eqb k boxKind) (gives-map Bytes S.box boxForm box-gives (λ e h. F.box h))
+    (gives-fail Bytes illFormed))))))
 
 element-gives : Gives Bytes elementForm FineElement
 unfolding elementForm

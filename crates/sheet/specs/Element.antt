@@ -1,4 +1,4 @@
--- The head and the elements: what a block holds, and its form (document 01, "Input", the list). An element is a body, by its kind, and its properties, which are last in every form. Assumes nothing.
+-- The head and the elements: what a block holds, and its form (document 01, "Input", the list; boxes: document 02, request 3). An element is a body, by its kind, and its properties, which are last in every form. Assumes nothing.
 use mathlib.Core.Bool.{Bool, cond}
 use mathlib.Core.Option.{Option, none, some}
 use mathlib.Core.List.{List}
@@ -60,12 +60,20 @@ pub record Reference : Type 0 where
   pub columnSpacing : Option (Point Unit)
   pub rowSpacing : Option (Point Unit)
 
+-- two corners, in the order and with the units that the sheet has
+pub record Box : Type 0 where
+  pub layer : ℕ
+  pub boxtype : ℕ
+  pub first : Point Unit
+  pub second : Point Unit
+
 pub data Body : Type 0 where
   polygon : Shape → Body
   path : Path → Body
   text : Text → Body
   node : Shape → Body
   reference : Reference → Body
+  box : Box → Body
 
 pub record Element : Type 0 where
   pub body : Body
@@ -88,12 +96,17 @@ nodeKind = 4
 abbrev pub referenceKind : ℕ
 referenceKind = 5
 
+-- "Add element kind 6"
+abbrev pub boxKind : ℕ
+boxKind = 6
+
 abbrev pub kindOf : Body → ℕ
 kindOf (polygon e) = polygonKind
 kindOf (path e) = pathKind
 kindOf (text e) = textKind
 kindOf (node e) = nodeKind
 kindOf (reference e) = referenceKind
+kindOf (box e) = boxKind
 
 -- ---- forms
 
@@ -168,6 +181,15 @@ referenceForm = do
   sr ← spacing
   pure (record { name = n; columns = c; rows = w; reflection = r; magnification = m; degrees = a; sine = si; cosine = co; origin = o; columnSpacing = sc; rowSpacing = sr })
 
+-- "kind byte, layer, type, two corner points, properties"
+unfoldable pub boxForm : Form Box
+boxForm = do
+  l ← num 2
+  t ← num 2
+  p ← point
+  q ← point
+  pure (record { layer = l; boxtype = t; first = p; second = q })
+
 -- the body of each kind; any other kind is an unknown code
 unfoldable pub bodyForm : ℕ → Form Body
 bodyForm k =
@@ -176,7 +198,8 @@ bodyForm k =
     (cond (eqb k textKind) (map text textForm)
     (cond (eqb k nodeKind) (map node shapeForm)
     (cond (eqb k referenceKind) (map reference referenceForm)
-    (fail illFormed)))))
+    (cond (eqb k boxKind) (map box boxForm)
+    (fail illFormed))))))
 
 -- kind byte, body, properties
 unfoldable pub elementForm : Form Element

@@ -12,7 +12,7 @@ use Rattle.units.specs.declared.Unit.{Unit}
 use Rattle.units.specs.declared.Unit.the-variants as U
 use Rattle.units.specs.Point.{Point}
 use Rattle.sheet.specs.Form.{integerKind, doubleKind, absentKind}
-use Rattle.sheet.specs.Element.{Property, Head, Shape, Path, Text, Reference, Body, polygon, path, text, node, reference, Element, kindOf}
+use Rattle.sheet.specs.Element.{Property, Head, Shape, Path, Text, Reference, Box, Body, polygon, path, text, node, reference, box, Element, kindOf}
 use Rattle.sheet.specs.Cell.{Cell}
 
 -- ---- parts
@@ -89,12 +89,17 @@ referenceBytes e =
     ++ (doubleBytes (e .magnification) ++ (doubleBytes (e .degrees) ++ (doubleBytes (e .sine) ++ (doubleBytes (e .cosine)
     ++ (pointBytes (e .origin) ++ (spacingBytes (e .columnSpacing) ++ spacingBytes (e .rowSpacing))))))))))
 
+-- "layer, type, two corner points"
+unfoldable pub boxBytes : Box → List ℕ
+boxBytes e = bytesOf 2 (e .layer) ++ (bytesOf 2 (e .boxtype) ++ (pointBytes (e .first) ++ pointBytes (e .second)))
+
 abbrev pub bodyBytes : Body → List ℕ
 bodyBytes (polygon e) = shapeBytes e
 bodyBytes (path e) = pathBytes e
 bodyBytes (text e) = textBytes e
 bodyBytes (node e) = shapeBytes e
 bodyBytes (reference e) = referenceBytes e
+bodyBytes (box e) = boxBytes e
 
 -- kind byte, body, properties
 unfoldable pub elementBlock : Element → List ℕ

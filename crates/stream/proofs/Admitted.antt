@@ -35,6 +35,7 @@ AdmittedSteps limits (S.text e) = T true
 AdmittedSteps limits (S.node e) = T true
 AdmittedSteps limits (S.sref e) = T true
 AdmittedSteps limits (S.aref e) = AdmittedPoint limits (e .columnStep) × AdmittedPoint limits (e .rowStep)
+AdmittedSteps limits (S.box e) = T true
 
 -- properties after i others, and ENDEL
 pub data AdmittedTail (limits : Limits) (kind : ℕ) : ℕ → List Property → Type 0 where
@@ -72,6 +73,7 @@ steps-free (S.text e) = tt
 steps-free (S.node e) = tt
 steps-free (S.sref e) = tt
 steps-free (S.aref e) = (record { x = refl; y = refl }, record { x = refl; y = refl })
+steps-free (S.box e) = tt
 
 tail-free : (kind i : ℕ) (qs : List Property) → AdmittedTail unlimited kind i qs
 tail-free kind i [] = end refl

@@ -5,7 +5,7 @@ use mathlib.Core.List.{List, [], _∷_, _++_}
 use Prim.Native.Nat.{ℕ, _+_, _<_}
 use native.Mathlib.Omega.{arith}
 use lib.ListN.{length, drop, length-append}
-use Rattle.stream.specs.Record.{Rec, BOUNDARY, PATH, SREF, AREF, TEXT, NODE}
+use Rattle.stream.specs.Record.{Rec, BOUNDARY, PATH, SREF, AREF, TEXT, NODE, BOX}
 use Rattle.stream.specs.Structure.{Property, Strans, SaidBody, Said}
 use Rattle.stream.specs.Structure as S
 use Rattle.stream.specs.Records.{emptyRecord, opt, stransRecords, shapeRecords, pathRecords, textRecords, srefRecords, arefRecords, bodyRecords, tailRecords, elementRecords}
@@ -33,6 +33,7 @@ body-append (S.text e) a b = simp (opt-append, strans-append)
 body-append (S.node e) a b = refl
 body-append (S.sref e) a b = simp strans-append
 body-append (S.aref e) a b = simp strans-append
+body-append (S.box e) a b = refl
 
 pub element-append : (w : Said) (a b : List Rec) → elementRecords w a ++ b ≡ elementRecords w (a ++ b)
 element-append w a b = body-append (w .body) (tailRecords (w .properties) a) b ∙ ap (bodyRecords (w .body)) (tail-append (w .properties) a b)
@@ -47,6 +48,7 @@ codeOf (S.text e) = TEXT
 codeOf (S.node e) = NODE
 codeOf (S.sref e) = SREF
 codeOf (S.aref e) = AREF
+codeOf (S.box e) = BOX
 
 pub first-is : (w : SaidBody) (rest : List Rec) → bodyRecords w rest ≡ emptyRecord (codeOf w) ∷ drop 1 (bodyRecords w rest)
 unfolding shapeRecords pathRecords textRecords srefRecords arefRecords
@@ -56,6 +58,7 @@ first-is (S.text e) rest = refl
 first-is (S.node e) rest = refl
 first-is (S.sref e) rest = refl
 first-is (S.aref e) rest = refl
+first-is (S.box e) rest = refl
 
 pub element-longer : (w : Said) (rest : List Rec) → length rest < length (elementRecords w rest)
 element-longer w rest =

@@ -14,8 +14,8 @@ use Rattle.units.specs.Point.{Point}
 use Rattle.refusal.specs.declared.Refusal.{Refusal}
 use Rattle.refusal.specs.declared.Refusal.the-variants as R
 use Rattle.parsing.specs.Parse.{Part, ill, part, Parse, pure, fail, follow, when, map, present, _>>=_}
-use Rattle.stream.specs.Record.{Rec, BGNSTR, STRNAME, ENDSTR, BOUNDARY, PATH, SREF, AREF, TEXT, LAYER, DATATYPE, WIDTH, XY, ENDEL, SNAME, COLROW, NODE, TEXTTYPE, PRESENTATION, STRING, STRANS, MAG, ANGLE, PATHTYPE, NODETYPE, PROPATTR, PROPVALUE, BGNEXTN, ENDEXTN}
-use Rattle.stream.specs.Structure.{Property, boundary, path, text, node, sref, aref}
+use Rattle.stream.specs.Record.{Rec, BGNSTR, STRNAME, ENDSTR, BOUNDARY, PATH, SREF, AREF, TEXT, LAYER, DATATYPE, WIDTH, XY, ENDEL, SNAME, COLROW, NODE, TEXTTYPE, PRESENTATION, STRING, STRANS, MAG, ANGLE, PATHTYPE, NODETYPE, PROPATTR, PROPVALUE, BOX, BOXTYPE, BGNEXTN, ENDEXTN}
+use Rattle.stream.specs.Structure.{Property, boundary, path, text, node, sref, aref, box}
 use Rattle.stream.specs.Read.{Fault, noRecord, notOfGrammar, beyond, Stop, tagged, inBlock, Reader, Limits, unless, item, optional, pointsOf, onePoint, threePoints, stepOf, axisStep, pointStep, reflectionFrom, afterStrans, strans, someOf, shapeBody, pathBody, textBody, srefBody, arefBody, bodyAfter, begins, propertyOrEnd, propertiesF, properties, elementAfter, elementFrom, elementsF, elements, structure}
 
 -- What the first reading gives, and what the second gives where t follows: the same fault, or the same value with t left too. Where the first's fault is excused (W), anything.
@@ -166,7 +166,8 @@ module _ (first second : Limits) (W : Fault → Type 0) (wanted : W noRecord)
   unfolding bodyAfter
   by-body kind =
       by-cond (eqb kind BOUNDARY) (by-map boundary (by-shape kind DATATYPE)) (by-cond (eqb kind PATH) (by-map path (by-path kind)) (by-cond (eqb kind TEXT) (by-map text (by-text kind))
-      (by-cond (eqb kind NODE) (by-map node (by-shape kind NODETYPE)) (by-cond (eqb kind SREF) (by-map sref (by-sref kind)) (by-cond (eqb kind AREF) (by-map aref (by-aref kind)) by-fail)))))
+      (by-cond (eqb kind NODE) (by-map node (by-shape kind NODETYPE)) (by-cond (eqb kind SREF) (by-map sref (by-sref kind)) (by-cond (eqb kind AREF) (by-map aref (by-aref kind))
+      (by-cond (eqb kind BOX) (by-map box (by-shape kind BOXTYPE)) by-fail))))))
 
   by-or-end : (kind i : ℕ) {p q : Reader (List Property)} (o : Option (List ℕ)) → SideBySide W p q → SideBySide W (propertyOrEnd first kind i p o) (propertyOrEnd second kind i q o)
   unfolding propertyOrEnd

@@ -95,6 +95,7 @@ pub data FitBody : SaidBody → Type 0 where
   node : {e : Shape} → FitShape e → FitBody (S.node e)
   sref : {e : Sref (Option Strans)} → FitSref e → FitBody (S.sref e)
   aref : {e : Aref (Option Strans)} → FitAref e → FitBody (S.aref e)
+  box : {e : Shape} → FitShape e → FitBody (S.box e)
 
 pub record FitElement (e : Said) : Type 0 where
   pub body : FitBody (e .body)

@@ -15,7 +15,7 @@ use Rattle.big_endian.specs.Big.{Bytes, bytesOf}
 use Rattle.big_endian.proofs.BigLaws.{length-bytesOf}
 use Rattle.big_endian.proofs.BytesLaws.{bytes-append, bytes-bytesOf, bytes-joined, length-joined}
 use Rattle.units.specs.Point.{Point}
-use Rattle.stream.specs.Record.{Rec, BOUNDARY, NODE, DATATYPE, NODETYPE, noData, twoByte, eightByteReal, asciiString, listed, manual, ofManual}
+use Rattle.stream.specs.Record.{Rec, BOUNDARY, NODE, DATATYPE, NODETYPE, BOX, noData, twoByte, eightByteReal, asciiString, listed, manual, ofManual}
 use Rattle.stream.specs.Structure.{Property, Strans, Shape, SaidBody, Said, Structure}
 use Rattle.stream.specs.Structure as S
 use Rattle.stream.specs.Records.{longBytes, realRecord, stringRecord, wordsBytes, pointBytes, xyRecord, colrowRecord, stampsRecord, cornersOf, opt, stransRecords, shapeRecords, pathRecords, textRecords, srefRecords, arefRecords, bodyRecords, tailRecords, elementsRecords, structureRecords}
@@ -125,6 +125,7 @@ good-body (S.sref e) rs (FitBody.sref h) k =
 good-body (S.aref e) rs (FitBody.aref h) k =
     more (good-number 0 _ _ 0 tt tt (lit< tt)) (more (good-string _ _ (λ t. t) (h .name))
     (good-strans _ _ (h .transform) (more (good-colrow _ _) (more (good-points (cornersOf e) (lit≤ tt)) k))))
+good-body (S.box e) rs (FitBody.box h) k = good-shape BOX _ e rs tt tt h k
 
 good-elements : (ws : List Said) (rs : List Rec) → All FitElement ws → All Good rs → All Good (elementsRecords ws rs)
 good-elements [] rs h k = k

@@ -21,7 +21,7 @@ use Rattle.refusal.specs.declared.Refusal.{Refusal}
 use Rattle.parsing.specs.Parse.{part, pure}
 use Rattle.parsing.proofs.ParseLaws.{then}
 use Rattle.units.specs.Point.{Point, endpoint}
-use Rattle.stream.specs.Record.{Rec, ENDSTR, BOUNDARY, PATH, SREF, AREF, TEXT, DATATYPE, NODE, PRESENTATION, STRING, STRANS, MAG, ANGLE, NODETYPE, ENDEL}
+use Rattle.stream.specs.Record.{Rec, ENDSTR, BOUNDARY, PATH, SREF, AREF, TEXT, DATATYPE, NODE, PRESENTATION, STRING, STRANS, MAG, ANGLE, NODETYPE, BOX, BOXTYPE, ENDEL}
 use Rattle.stream.specs.Structure.{Property, Strans, Shape, Path, Text, Sref, Aref, SaidBody, Said, Structure}
 use Rattle.stream.specs.Structure as S
 use Rattle.stream.specs.Records.{emptyRecord, bitsRecord, stringRecord, xyRecord, colrowRecord, longBytes, wordsBytes, pointBytes, pointsBytes, opt, stransBits, stransRecords, endpointOf, cornersOf, shapeRecords, pathRecords, textRecords, srefRecords, arefRecords, bodyRecords, tailRecords, elementRecords, elementsRecords, structureRecords}
@@ -249,6 +249,7 @@ module _ (limits : Limits) where
   body-back (S.node e) rest a s (FitBody.node h) = then _ (shape-back limits NODE NODE NODETYPE e rest a h) refl
   body-back (S.sref e) rest a s (FitBody.sref h) = then _ (sref-back limits SREF e rest a h) refl
   body-back (S.aref e) rest a s (FitBody.aref h) = then _ (aref-back limits AREF e rest a (s .0) (s .1) h) refl
+  body-back (S.box e) rest a s (FitBody.box h) = then _ (shape-back limits BOX BOX BOXTYPE e rest a h) refl
 
   tail-from : (f kind i : ℕ) (qs : List Property) (rest : List Rec) → AdmittedTail limits kind i qs → All FitProperty qs → length qs < f → propertiesF limits f kind i (tailRecords qs rest) ≡ part qs rest
   unfolding propertiesF propertyOrEnd tailRecords
@@ -280,6 +281,7 @@ module _ (limits : Limits) where
   not-end (S.node e) = refl
   not-end (S.sref e) = refl
   not-end (S.aref e) = refl
+  not-end (S.box e) = refl
 
   does-begin : (w : SaidBody) → begins (codeOf w) ≡ true
   does-begin (S.boundary e) = refl
@@ -288,6 +290,7 @@ module _ (limits : Limits) where
   does-begin (S.node e) = refl
   does-begin (S.sref e) = refl
   does-begin (S.aref e) = refl
+  does-begin (S.box e) = refl
 
   from-back : (w : Said) (rest : List Rec) (i : ℕ) → AdmittedElement limits i w → FitElement w → elementFrom limits i (emptyRecord (codeOf (w .body))) (drop 1 (elementRecords w rest)) ≡ part w rest
   unfolding elementFrom

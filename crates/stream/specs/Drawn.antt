@@ -1,4 +1,4 @@
--- What a structure draws: what its records are worth (document 01, "What a structure draws"). Stamps are not drawn, and strings have their trailing zero bytes dropped.
+-- What a structure draws: what its records are worth (document 01, "What a structure draws"; document 02, request 3). Stamps are not drawn, and strings have their trailing zero bytes dropped.
 -- Two structures draw the same where these are equal. Assumes nothing.
 use mathlib.Core.Bool.{Bool, false, _&&_, cond}
 use mathlib.Core.Option.{Option, none, some}
@@ -8,7 +8,7 @@ use lib.Dec.{eqb}
 use lib.IntN.{ℤ, pos, _+ℤ_, _*ℤ_}
 use Rattle.gds_format.specs.Real8.{real8Value}
 use Rattle.stream.specs.Strings.{trimmed}
-use Rattle.stream.specs.Structure.{Property, Strans, Text, Sref, Aref, Body, boundary, path, text, node, sref, aref, Element, SaidBody, Said, Structure}
+use Rattle.stream.specs.Structure.{Property, Strans, Text, Sref, Aref, Body, boundary, path, text, node, sref, aref, box, Element, SaidBody, Said, Structure}
 
 -- magnification and degrees are whole numbers of 2 ^ -1074
 pub record Transform : Type 0 where
@@ -88,6 +88,7 @@ bodyDrawn (text e) = text (textDrawn e)
 bodyDrawn (node e) = node e
 bodyDrawn (sref e) = sref (srefDrawn e)
 bodyDrawn (aref e) = referenceDrawn (arefDrawn e)
+bodyDrawn (box e) = box e
 
 abbrev pub elementDrawn : Said → Worth
 elementDrawn e = record { body = bodyDrawn (e .body); properties = propertiesDrawn (e .properties) }

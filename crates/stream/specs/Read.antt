@@ -1,4 +1,4 @@
--- Reading a structure by the manual's grammar (document 01, "What a structure draws"): bytes to records, records to what they say. Assumes nothing.
+-- Reading a structure by the manual's grammar (document 01, "What a structure draws"; document 02, request 3): bytes to records, records to what they say. Assumes nothing.
 -- The grammar is said once, for two readers. Reading for what is drawn asks the grammar alone (`unlimited`, `structureOf`). Reading to a sheet asks besides, of each record, what a sheet holds
 -- (document 02, request 8; crate `reading`).
 use mathlib.Core.Bool.{Bool, true, false, _||_, cond}
@@ -15,8 +15,8 @@ use Rattle.refusal.specs.declared.Refusal.{Refusal}
 use Rattle.refusal.specs.declared.Refusal.the-variants as R
 use Rattle.parsing.specs.Parse.{Part, ill, part, Parse, pure, fail, follow, when, map, present, Outcome, refused, given, accepted, _>>=_}
 use Rattle.units.specs.Point.{Point}
-use Rattle.stream.specs.Record.{Rec, BGNSTR, STRNAME, ENDSTR, BOUNDARY, PATH, SREF, AREF, TEXT, LAYER, DATATYPE, WIDTH, XY, ENDEL, SNAME, COLROW, NODE, TEXTTYPE, PRESENTATION, STRING, STRANS, MAG, ANGLE, PATHTYPE, NODETYPE, PROPATTR, PROPVALUE, BGNEXTN, ENDEXTN, runOf}
-use Rattle.stream.specs.Structure.{Property, Strans, Shape, Path, Text, Sref, Aref, boundary, path, text, node, sref, aref, SaidBody, Said, Structure}
+use Rattle.stream.specs.Record.{Rec, BGNSTR, STRNAME, ENDSTR, BOUNDARY, PATH, SREF, AREF, TEXT, LAYER, DATATYPE, WIDTH, XY, ENDEL, SNAME, COLROW, NODE, TEXTTYPE, PRESENTATION, STRING, STRANS, MAG, ANGLE, PATHTYPE, NODETYPE, PROPATTR, PROPVALUE, BOX, BOXTYPE, BGNEXTN, ENDEXTN, runOf}
+use Rattle.stream.specs.Structure.{Property, Strans, Shape, Path, Text, Sref, Aref, boundary, path, text, node, sref, aref, box, SaidBody, Said, Structure}
 
 -- ---- faults
 
@@ -127,7 +127,7 @@ stepOf n (negsuc k) = cond (eqb (suc k % n) 0) (some (negℤ (pos (suc k / n))))
 
 -- the records that an element begins with
 abbrev pub begins : ℕ → Bool
-begins c = eqb c BOUNDARY || eqb c PATH || eqb c TEXT || eqb c NODE || eqb c SREF || eqb c AREF
+begins c = eqb c BOUNDARY || eqb c PATH || eqb c TEXT || eqb c NODE || eqb c SREF || eqb c AREF || eqb c BOX
 
 -- ".. then no byte": neither a record nor, after the records, any byte is left
 abbrev pub closed : {A : Type 0} → List ℕ → Part Stop Rec A → Outcome Stop A
@@ -179,7 +179,7 @@ module _ (limits : Limits) where
 
   -- ---- bodies, each after its first record
 
-  -- BOUNDARY with DATATYPE, NODE with NODETYPE
+  -- BOUNDARY with DATATYPE, NODE with NODETYPE, BOX with BOXTYPE
   unfoldable pub shapeBody : ℕ → ℕ → Reader Shape
   shapeBody kind t = do
     l ← item kind 0 LAYER
@@ -239,7 +239,8 @@ module _ (limits : Limits) where
       (cond (eqb kind NODE) (map node (shapeBody kind NODETYPE))
       (cond (eqb kind SREF) (map sref (srefBody kind))
       (cond (eqb kind AREF) (map aref (arefBody kind))
-      (fail notOfGrammar))))))
+      (cond (eqb kind BOX) (map box (shapeBody kind BOXTYPE))
+      (fail notOfGrammar)))))))
 
   -- ---- elements
 

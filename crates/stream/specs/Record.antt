@@ -1,4 +1,4 @@
--- Records (the GDSII manual, "Record descriptions"; document 01, "Result one"; config/gds_file_types.rs): a code, a data type, data. Assumes nothing.
+-- Records (the GDSII manual, "Record descriptions"; document 01, "Result one"; document 02, request 3; config/gds_file_types.rs): a code, a data type, data. Assumes nothing.
 use mathlib.Core.Bool.{Bool, false, _&&_, cond}
 use mathlib.Core.List.{List, [], _∷_, _++_}
 use Prim.Native.Nat.{ℕ, zero, suc, _+_, _-_, _%_}
@@ -93,6 +93,12 @@ PROPATTR = 0x2B
 abbrev pub PROPVALUE : ℕ
 PROPVALUE = 0x2C
 
+abbrev pub BOX : ℕ
+BOX = 0x2D
+
+abbrev pub BOXTYPE : ℕ
+BOXTYPE = 0x2E
+
 abbrev pub BGNEXTN : ℕ
 BGNEXTN = 0x30
 
@@ -151,10 +157,12 @@ manual =
     ∷ row AREF noData (exactly 0)
     ∷ row TEXT noData (exactly 0)
     ∷ row NODE noData (exactly 0)
+    ∷ row BOX noData (exactly 0)
     ∷ row LAYER twoByte (exactly 2)
     ∷ row DATATYPE twoByte (exactly 2)
     ∷ row TEXTTYPE twoByte (exactly 2)
     ∷ row NODETYPE twoByte (exactly 2)
+    ∷ row BOXTYPE twoByte (exactly 2)
     ∷ row PATHTYPE twoByte (exactly 2)
     ∷ row WIDTH fourByte (exactly 4)
     ∷ row BGNEXTN fourByte (exactly 4)

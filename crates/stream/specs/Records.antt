@@ -1,4 +1,4 @@
--- The records of a structure (document 01, "Result one"), in the order of its elements' lists. Assumes nothing.
+-- The records of a structure (document 01, "Result one"; BOX: document 02, request 3), in the order of its elements' lists. Assumes nothing.
 use mathlib.Core.Bool.{Bool, cond}
 use mathlib.Core.Option.{Option, none, some}
 use mathlib.Core.List.{List, [], _∷_, _++_}
@@ -8,8 +8,8 @@ use mir.Val.{ofZ}
 use mir.Syntax.{w32}
 use Rattle.big_endian.specs.Big.{bytesOf, joined}
 use Rattle.units.specs.Point.{Point, endpoint}
-use Rattle.stream.specs.Record.{Rec, BGNSTR, STRNAME, ENDSTR, BOUNDARY, PATH, SREF, AREF, TEXT, LAYER, DATATYPE, WIDTH, XY, ENDEL, SNAME, COLROW, NODE, TEXTTYPE, PRESENTATION, STRING, STRANS, MAG, ANGLE, PATHTYPE, NODETYPE, PROPATTR, PROPVALUE, BGNEXTN, ENDEXTN, noData, bitArray, twoByte, fourByte, eightByteReal, asciiString, streamBytes}
-use Rattle.stream.specs.Structure.{Property, Strans, Shape, Path, Text, Sref, Aref, boundary, path, text, node, sref, aref, SaidBody, Said, Structure}
+use Rattle.stream.specs.Record.{Rec, BGNSTR, STRNAME, ENDSTR, BOUNDARY, PATH, SREF, AREF, TEXT, LAYER, DATATYPE, WIDTH, XY, ENDEL, SNAME, COLROW, NODE, TEXTTYPE, PRESENTATION, STRING, STRANS, MAG, ANGLE, PATHTYPE, NODETYPE, PROPATTR, PROPVALUE, BOX, BOXTYPE, BGNEXTN, ENDEXTN, noData, bitArray, twoByte, fourByte, eightByteReal, asciiString, streamBytes}
+use Rattle.stream.specs.Structure.{Property, Strans, Shape, Path, Text, Sref, Aref, boundary, path, text, node, sref, aref, box, SaidBody, Said, Structure}
 
 -- ---- one record
 
@@ -85,7 +85,7 @@ cornersOf e = e .origin ∷ endpointOf (e .origin) (e .columnStep) (e .columns) 
 
 -- ---- bodies
 
--- "BOUNDARY or NODE: LAYER, DATATYPE or NODETYPE, XY."
+-- "BOUNDARY or NODE: LAYER, DATATYPE or NODETYPE, XY."; BOX: LAYER, BOXTYPE, XY, as `write_box_with_converter` has them
 unfoldable pub shapeRecords : ℕ → ℕ → Shape → List Rec → List Rec
 shapeRecords code typeCode e rest =
     emptyRecord code ∷ wordRecord LAYER (e .layer) ∷ wordRecord typeCode (e .datatype) ∷ xyRecord (e .points) ∷ rest
@@ -124,6 +124,7 @@ bodyRecords (text e) rest = textRecords e rest
 bodyRecords (node e) rest = shapeRecords NODE NODETYPE e rest
 bodyRecords (sref e) rest = srefRecords e rest
 bodyRecords (aref e) rest = arefRecords e rest
+bodyRecords (box e) rest = shapeRecords BOX BOXTYPE e rest
 
 -- ---- elements and the structure
 

@@ -1,4 +1,4 @@
--- What the records of a structure say (document 01, "Result one" and "What a structure draws"). Assumes nothing.
+-- What the records of a structure say (document 01, "Result one" and "What a structure draws"; document 02, request 3). Assumes nothing.
 -- A body is over the type P of a presentation and T of a transform: records say each or leave it out, and Drawn.antt has what that is worth.
 use mathlib.Core.Bool.{Bool}
 use mathlib.Core.Option.{Option}
@@ -18,7 +18,7 @@ pub record Strans : Type 0 where
   pub magnification : Option (List ℕ)
   pub angle : Option (List ℕ)
 
--- a BOUNDARY or a NODE
+-- a BOUNDARY, a NODE or a BOX; its type is of DATATYPE, NODETYPE or BOXTYPE
 pub record Shape : Type 0 where
   pub layer : ℕ
   pub datatype : ℕ
@@ -63,6 +63,7 @@ pub data Body (P T : Type 0) : Type 0 where
   node : Shape → Body P T
   sref : Sref T → Body P T
   aref : Aref T → Body P T
+  box : Shape → Body P T
 
 pub record Element (P T : Type 0) : Type 0 where
   pub body : Body P T

@@ -14,32 +14,32 @@ use Rattle.cell.specs.Limits.{within, maxLayer, maxDataType}
 use Rattle.cell.specs.Write.{layerAndType}
 use Rattle.validation.specs.code.Check.{shapeChecks}
 
+module _ (layer datatype : ℕ) where
+  pub layer-stops : leb layer maxLayer ≡ false → refused R.LayerOrType ≡ layerAndType layer datatype
+  unfolding layerAndType
+  layer-stops a = sym (need-off (leb layer maxLayer) R.LayerOrType _ a)
+
+  module _ (a : leb layer maxLayer ≡ true) where
+    layered : layerAndType layer datatype ≡ need (leb datatype maxDataType) R.LayerOrType
+    unfolding layerAndType
+    layered = need-on (leb layer maxLayer) R.LayerOrType _ a
+
+    pub type-stops : leb datatype maxDataType ≡ false → refused R.LayerOrType ≡ layerAndType layer datatype
+    unfolding need
+    type-stops b = sym (layered ∙ ap (λ (t : Bool). need t R.LayerOrType) b)
+
+    pub both-pass : leb datatype maxDataType ≡ true → pure tt ≡ layerAndType layer datatype
+    unfolding need
+    both-pass b = sym (layered ∙ ap (λ (t : Bool). need t R.LayerOrType) b)
+
 module _ (least n most layer datatype : ℕ) where
   pub count-stops : within least n most ≡ false → refused R.PointCount ≡ shapeChecks least n most layer datatype
   unfolding shapeChecks
   count-stops h = sym (need-off (within least n most) R.PointCount _ h)
 
-  module _ (h : within least n most ≡ true) where
-    counted : shapeChecks least n most layer datatype ≡ layerAndType layer datatype
-    unfolding shapeChecks
-    counted = need-on (within least n most) R.PointCount _ h
-
-    pub layer-stops : leb layer maxLayer ≡ false → refused R.LayerOrType ≡ shapeChecks least n most layer datatype
-    unfolding layerAndType
-    layer-stops a = sym (counted ∙ need-off (leb layer maxLayer) R.LayerOrType _ a)
-
-    module _ (a : leb layer maxLayer ≡ true) where
-      layered : shapeChecks least n most layer datatype ≡ need (leb datatype maxDataType) R.LayerOrType
-      unfolding layerAndType
-      layered = counted ∙ need-on (leb layer maxLayer) R.LayerOrType _ a
-
-      pub type-stops : leb datatype maxDataType ≡ false → refused R.LayerOrType ≡ shapeChecks least n most layer datatype
-      unfolding need
-      type-stops b = sym (layered ∙ ap (λ (t : Bool). need t R.LayerOrType) b)
-
-      pub all-pass : leb datatype maxDataType ≡ true → pure tt ≡ shapeChecks least n most layer datatype
-      unfolding need
-      all-pass b = sym (layered ∙ ap (λ (t : Bool). need t R.LayerOrType) b)
+  pub counted : within least n most ≡ true → shapeChecks least n most layer datatype ≡ layerAndType layer datatype
+  unfolding shapeChecks
+  counted h = need-on (within least n most) R.PointCount _ h
 
   -- passed, the points are as many as they may be
   pub passed-within : pure tt ≡ shapeChecks least n most layer datatype → (least ≤ n) × (n ≤ most)
@@ -79,4 +79,4 @@ module _ (least n most layer datatype : ℕ) where
     behind-yields y =
         let count = checked R.PointCount y in
         let layer-type = checked R.LayerOrType (then-steps (count .then) .first) in
-        all-pass (is-true _ (count .passed)) (is-true _ (layer-type .passed)) (is-true _ (needed (leb datatype maxDataType) R.LayerOrType (layer-type .then)))
+        both-pass layer datatype (is-true _ (layer-type .passed)) (is-true _ (needed (leb datatype maxDataType) R.LayerOrType (layer-type .then))) ∙ sym (counted (is-true _ (count .passed)))

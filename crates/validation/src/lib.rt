@@ -12,6 +12,7 @@ ghost use Rattle.cell.specs.Limits as Limits;
 ghost use Rattle.cell.specs.Limits.{maxLayer, maxDataType};
 ghost use Rattle.cell.specs.Names as Names;
 ghost use Rattle.cell.specs.Stamps as Stamps;
+ghost use Rattle.cell.specs.Write.{layerAndType};
 ghost use Rattle.forms.specs.code.Place.{wordsFrom, stampNumbers, stampsLength};
 ghost use Rattle.validation.specs.code.Call.{callOf};
 ghost use Rattle.validation.specs.code.Check.{checkOf, shapeChecks};
@@ -90,15 +91,10 @@ pub fn validate_data_type(datatype: u16) -> bool
     datatype <= MAX_DATA_TYPE
 }
 
-// The checks of a polygon, a path or a node before its points, in order: how many points there are, layer, type.
-pub fn check_shape(least: usize, count: usize, most: usize, layer: u16, datatype: u16) -> Check
-    ensures { λ r. ⌜ checkOf r ≡ shapeChecks least count most layer datatype ⌝ }
+// The layer, then the type.
+pub fn check_layer_and_type(layer: u16, datatype: u16) -> Check
+    ensures { λ r. ⌜ checkOf r ≡ layerAndType layer datatype ⌝ }
 {
-    if !within(least, count, most) {
-        return Check::Refused {
-            refusal: Refusal::PointCount,
-        };
-    }
     if !validate_layer(layer) {
         return Check::Refused {
             refusal: Refusal::LayerOrType,
@@ -110,6 +106,18 @@ pub fn check_shape(least: usize, count: usize, most: usize, layer: u16, datatype
         };
     }
     Check::Passed
+}
+
+// The checks of a polygon, a path or a node before its points, in order: how many points there are, layer, type.
+pub fn check_shape(least: usize, count: usize, most: usize, layer: u16, datatype: u16) -> Check
+    ensures { λ r. ⌜ checkOf r ≡ shapeChecks least count most layer datatype ⌝ }
+{
+    if !within(least, count, most) {
+        return Check::Refused {
+            refusal: Refusal::PointCount,
+        };
+    }
+    check_layer_and_type(layer, datatype)
 }
 
 // ---- names

@@ -2,7 +2,7 @@
 -- Assumes nothing.
 use native.Mathlib.Omega.{arith}
 use borrow.Author.Needs.{needs}
-use Rattle.elements.proofs.BodyLaws.{body-in-as, polygon-as, path-as, text-as, node-as, reference-as}
+use Rattle.elements.proofs.BodyLaws.{body-in-as, polygon-as, path-as, text-as, node-as, reference-as, box-as}
 use Rattle.elements.proofs.measure_body.Statement.{statement}
 use Rattle.elements.proofs.measure_body.Tie as tie
 
@@ -48,6 +48,14 @@ measure-reference-requires c κs =
     let spare = s .pre .1 in
     (body-in-as (s .args .b .now) (c .before .body5 .given .1) (s .pre .0), omega arith)
 
+enum-known-body-6 : tie.Need-enum-known-body-6
+enum-known-body-6 c = search needs
+
+measure-box-requires : tie.Need-measure-box-requires
+measure-box-requires c κs =
+    let s = c .before .before .before .before in
+    (body-in-as (s .args .b .now) (c .before .body6 .given .1) (s .pre .0), s .pre .1)
+
 returns : tie.Need-returns
 returns c =
     let a = c .before .before .before .before .before .args in
@@ -78,6 +86,12 @@ returns-5 c =
     let g = c .before .before .body5 .given in
     reference-as (a .converter .policy) (a .converter .d) (a .b .now) (g .0 .0) (g .1) .measures (a .entry) (c .measure-reference .result) (c .measure-reference .ensures)
 
+returns-6 : tie.Need-returns-6
+returns-6 c =
+    let a = c .before .before .before .before .before .args in
+    let g = c .before .before .body6 .given in
+    box-as (a .converter .policy) (a .converter .d) (a .b .now) (g .0 .0) (g .1) .measures (a .entry) (c .measure-box .result) (c .measure-box .ensures)
+
 pub measure-body-spec : {M : Type 1} → statement M
 measure-body-spec =
     tie.close
@@ -92,8 +106,11 @@ measure-body-spec =
     measure-node-requires
     enum-known-body-5
     measure-reference-requires
+    enum-known-body-6
+    measure-box-requires
     returns
     returns-2
     returns-3
     returns-4
-    returns-5)
+    returns-5
+    returns-6)

@@ -5,7 +5,7 @@ use lib.ListN.{length}
 use borrow.Author.Needs.{needs}
 use Rattle.forms.specs.declared.BodyPlaces.{BodyPlaces}
 use Rattle.elements.specs.code.Block.{bodyLength}
-use Rattle.elements.proofs.BodyLaws.{polygon-as, path-as, text-as, node-as, reference-as}
+use Rattle.elements.proofs.BodyLaws.{polygon-as, path-as, text-as, node-as, reference-as, box-as}
 use Rattle.elements.proofs.PutLaws.{Room, room-of}
 use Rattle.elements.proofs.put_body.Statement.{statement}
 use Rattle.elements.proofs.put_body.Tie as tie
@@ -77,6 +77,18 @@ put-reference-requires c κs =
     let spare = s .pre .1 .1 .0 in
     (r .inside, (reference-as (a .converter .policy) (a .converter .d) (a .b .now) (g .0 .0) (g .1) .accepts (s .pre .1 .0), (omega arith, omega arith)))
 
+enum-known-body-6 : tie.Need-enum-known-body-6
+enum-known-body-6 c = search needs
+
+put-box-requires : tie.Need-put-box-requires
+unfolding bodyLength
+put-box-requires c κs =
+    let s = c .before .before .before .before .before .before in
+    let a = s .args in
+    let g = c .before .before .body6 .given in
+    let r = room s (g .1) in
+    (r .inside, (box-as (a .converter .policy) (a .converter .d) (a .b .now) (g .0 .0) (g .1) .accepts (s .pre .1 .0), (s .pre .1 .1 .0, r .fits)))
+
 same-length : tie.Need-same-length
 same-length c = search needs
 
@@ -132,6 +144,17 @@ returns-5 c =
     let g = at-body5 .body5 .given in
     reference-as (a .converter .policy) (a .converter .d) (a .b .now) (g .0 .0) (g .1) .writes (c .before .before .put-reference .ensures)
 
+same-length-6 : tie.Need-same-length-6
+same-length-6 c = search needs
+
+returns-6 : tie.Need-returns-6
+returns-6 c =
+    let at-body6 = c .before .before .before .before .before in
+    let start = at-body6 .before .before .before .before in
+    let a = start .args in
+    let g = at-body6 .body6 .given in
+    box-as (a .converter .policy) (a .converter .d) (a .b .now) (g .0 .0) (g .1) .writes (c .before .before .put-box .ensures)
+
 pub put-body-spec : {M : Type 1} → statement M
 put-body-spec =
     tie.close
@@ -146,6 +169,8 @@ put-body-spec =
     put-node-requires
     enum-known-body-5
     put-reference-requires
+    enum-known-body-6
+    put-box-requires
     same-length
     returns
     same-length-2
@@ -155,4 +180,6 @@ put-body-spec =
     same-length-4
     returns-4
     same-length-5
-    returns-5)
+    returns-5
+    same-length-6
+    returns-6)

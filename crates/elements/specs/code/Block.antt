@@ -24,6 +24,7 @@ use Rattle.forms.specs.declared.BodyPlaces.{BodyPlaces}
 use Rattle.forms.specs.declared.BodyPlaces.the-variants as B
 use Rattle.forms.specs.code.Forms.{pathAt}
 use Rattle.polygon_node.specs.code.Shape.{shapeLength}
+use Rattle.boxes.specs.code.Box.{boxLength}
 use Rattle.path.specs.code.Length.{pathLength}
 use Rattle.text.specs.code.Text.{textLength}
 use Rattle.reference.specs.code.Reference.{referenceLength}
@@ -40,6 +41,7 @@ bodyLength b (B.Path s) = pathLength (pathAt b s)
 bodyLength b (B.Text s) = textLength b s
 bodyLength b (B.Node s) = shapeLength (s .points .count)
 bodyLength b (B.Reference s) = referenceLength b s
+bodyLength b (B.Box s) = boxLength
 
 -- ---- the element of index i that a block holds: "form first", then its own refusals
 

@@ -35,10 +35,16 @@ reference-requires c κs = search needs
 returns-5 : tie.Need-returns-5
 returns-5 c = rw (c .before .if5 .taken) (c .reference .ensures)
 
+gds-box-requires : tie.Need-gds-box-requires
+gds-box-requires c κs = search needs
+
 returns-6 : tie.Need-returns-6
-returns-6 c =
-    let c1 = c .before in let c2 = c1 .before in let c3 = c2 .before in let c4 = c3 .before in let c6 = c4 .before .before in
-    body-unknown (c6 .args .kind) (c6 .args .b .now) (c4 .if1 .left) (c3 .if2 .left) (c2 .if3 .left) (c1 .if4 .left) (c .if5 .left)
+returns-6 c = rw (c .before .if6 .taken) (c .gds-box .ensures)
+
+returns-7 : tie.Need-returns-7
+returns-7 c =
+    let c1 = c .before in let c2 = c1 .before in let c3 = c2 .before in let c4 = c3 .before in let c5 = c4 .before in let c7 = c5 .before .before in
+    body-unknown (c7 .args .kind) (c7 .args .b .now) (c5 .if1 .left) (c4 .if2 .left) (c3 .if3 .left) (c2 .if4 .left) (c1 .if5 .left) (c .if6 .left)
 
 pub body-spec : {M : Type 1} → statement M
 body-spec =
@@ -54,4 +60,6 @@ body-spec =
     returns-4
     reference-requires
     returns-5
-    returns-6)
+    gds-box-requires
+    returns-6
+    returns-7)

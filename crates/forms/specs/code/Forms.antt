@@ -1,4 +1,4 @@
--- The head and the elements of which places tell, and that the places lie in the block (document 01, "Input", the list). Assumes nothing.
+-- The head and the elements of which places tell, and that the places lie in the block (document 01, "Input", the list; boxes: document 02, request 3). Assumes nothing.
 use mathlib.Core.Path.{_≡_}
 use mathlib.Core.Bool.{cond}
 use mathlib.Core.Option.{Option, none, some}
@@ -9,13 +9,14 @@ use lib.ListN.{length}
 use Rattle.big_endian.specs.Big.{numberAt}
 use Rattle.units.specs.declared.Unit.{Unit}
 use Rattle.units.specs.Point.{Point}
-use Rattle.sheet.specs.Element.{Property, Head, Shape, Path, Text, Reference, Body, polygon, path, text, node, reference, Element}
+use Rattle.sheet.specs.Element.{Property, Head, Shape, Path, Text, Reference, Box, Body, polygon, path, text, node, reference, box, Element}
 use Rattle.forms.specs.declared.HeadPlaces.{HeadPlaces}
 use Rattle.forms.specs.declared.PointsPlaces.{PointsPlaces}
 use Rattle.forms.specs.declared.ShapePlaces.{ShapePlaces}
 use Rattle.forms.specs.declared.PathPlaces.{PathPlaces}
 use Rattle.forms.specs.declared.TextPlaces.{TextPlaces}
 use Rattle.forms.specs.declared.ReferencePlaces.{ReferencePlaces}
+use Rattle.forms.specs.declared.BoxPlaces.{BoxPlaces}
 use Rattle.forms.specs.declared.BodyPlaces.{BodyPlaces}
 use Rattle.forms.specs.declared.BodyPlaces.the-variants as B
 use Rattle.forms.specs.declared.PropertyPlaces.{PropertyPlaces}
@@ -100,12 +101,16 @@ referencePlaces b p =
       row = p + 109;
     }
 
+unfoldable pub boxAt : List ℕ → BoxPlaces → Box
+boxAt b s = record { layer = s .layer; boxtype = s .boxtype; first = pointAt b (s .first); second = pointAt b (s .second) }
+
 abbrev pub bodyAt : List ℕ → BodyPlaces → Body
 bodyAt b (B.Polygon s) = polygon (shapeAt b s)
 bodyAt b (B.Path s) = path (pathAt b s)
 bodyAt b (B.Text s) = text (textAt b s)
 bodyAt b (B.Node s) = node (shapeAt b s)
 bodyAt b (B.Reference s) = reference (referenceAt b s)
+bodyAt b (B.Box s) = box (boxAt b s)
 
 abbrev pub propertiesAt : List ℕ → PropertyPlaces → List Property
 propertiesAt b q = propertiesFrom (q .count) b (q .place)
@@ -147,12 +152,17 @@ pub record ReferenceIn (b : List ℕ) (s : ReferencePlaces) : Type 0 where
   pub column-in : s .column + pointLength ≤ length b
   pub row-in : s .row + pointLength ≤ length b
 
+pub record BoxIn (b : List ℕ) (s : BoxPlaces) : Type 0 where
+  pub first-in : s .first + pointLength ≤ length b
+  pub second-in : s .second + pointLength ≤ length b
+
 abbrev pub BodyIn : List ℕ → BodyPlaces → Type 0
 BodyIn b (B.Polygon s) = ShapeIn b s
 BodyIn b (B.Path s) = PathIn b s
 BodyIn b (B.Text s) = TextIn b s
 BodyIn b (B.Node s) = ShapeIn b s
 BodyIn b (B.Reference s) = ReferenceIn b s
+BodyIn b (B.Box s) = BoxIn b s
 
 -- the properties end with the block
 pub record PropertiesIn (b : List ℕ) (q : PropertyPlaces) : Type 0 where
