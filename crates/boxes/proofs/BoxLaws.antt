@@ -2,7 +2,7 @@
 use mathlib.Core.Path.{_≡_, refl, sym, ap, ap₂, _∙_, subst}
 use mathlib.Core.List.{List, _++_, append-nil}
 use Prim.Native.Nat.{ℕ}
-use lib.Dec.{T, leb}
+use lib.Dec.{T}
 use lib.ListN.{length}
 use lib.IntN.{ℤ}
 use lib.Ieee.{Float}
@@ -19,17 +19,16 @@ use Rattle.conversion.specs.Made.{Made, Done, refused, made, pure, after, need,
 use Rattle.conversion.specs.Points.{writePoints}
 use Rattle.conversion.specs.code.Fold.{run}
 use Rattle.conversion.proofs.FoldLaws.{run-map}
-use Rattle.conversion.proofs.MadeLaws.{checked, needed, then-steps, need-on, refused-on, pure-on}
+use Rattle.conversion.proofs.MadeLaws.{Yields, made-yields, steps, checked, then-steps, need-on, refused-on, pure-on}
 use Rattle.sheet.specs.Element as S
 use Rattle.stream.specs.Structure as D
 use Rattle.stream.specs.Record.{LAYER, BOX, BOXTYPE, recordBytes, streamBytes}
 use Rattle.stream.specs.Records.{longBytes, pointsBytes, emptyRecord, wordRecord, xyRecord, shapeRecords}
-use Rattle.cell.specs.Limits.{maxDataType}
 use Rattle.cell.specs.Write.{layerAndType, closed, boxPoints, writeBox}
-use Rattle.cell.proofs.BoxLaws.{box-closes}
-use Rattle.records.specs.code.Bytes.{Placed, Recorded}
+use Rattle.cell.proofs.BoxLaws.{box-cornered, box-closes}
+use Rattle.records.specs.code.Bytes.{recordHead, wordRecordLength, Placed, Recorded}
 use Rattle.records.proofs.RecordLaws.{then-rest, alone}
-use Rattle.validation.proofs.CheckLaws.{both-pass}
+use Rattle.validation.proofs.CheckLaws.{both-yield}
 use Rattle.forms.specs.declared.BoxPlaces.{BoxPlaces}
 use Rattle.forms.specs.code.Place.{pointAt}
 use Rattle.forms.specs.code.Forms.{boxAt}
@@ -38,7 +37,7 @@ use Rattle.steps.specs.code.Steps.{Succeeds}
 use Rattle.steps.proofs.StepLaws.{run-through, yields}
 use Rattle.boxes.specs.declared.BoxValues.{BoxValues}
 use Rattle.boxes.specs.declared.BoxValues.the-variants as X
-use Rattle.boxes.specs.code.Box.{boxBytes, corner, pointsOf, boxOf, readyOf}
+use Rattle.boxes.specs.code.Box.{boxXyLength, boxLength, boxBytes, corner, pointsOf, boxOf, readyOf}
 
 -- ---- a box is its checks, then its points
 
@@ -95,16 +94,25 @@ module _ (policy : GdsRoundingPolicy) (d : Float) (b : List ℕ) (s : BoxPlaces)
 
   -- a box that succeeds has passed its checks
   pub passed : Succeeds (writeBox policy d box) → pure tt ≡ checks
-  unfolding writeBox boxAt layerAndType
-  passed w =
-      let layer-type = checked R.LayerOrType (then-steps (yields w) .first) in
-      both-pass (s .layer) (s .boxtype) (is-true _ (layer-type .passed)) (is-true _ (needed (leb (s .boxtype) maxDataType) R.LayerOrType (layer-type .then)))
+  unfolding writeBox boxAt
+  passed w = both-yield (s .layer) (s .boxtype) (then-steps (yields w) .first)
 
 -- ---- its records
 
-pub length-box : (s : BoxPlaces) (x1 y1 x2 y2 : ℤ) → length (boxBytes (boxOf s x1 y1 x2 y2)) ≡ 60
+-- of two corners of the grid
+pub length-box : (l t : ℕ) (p q : Point ℤ) → length (boxBytes (record { layer = l; datatype = t; points = boxPoints p q })) ≡ boxLength
 unfolding streamBytes recordBytes shapeRecords
-length-box s x1 y1 x2 y2 = refl
+length-box l t p q = refl
+
+-- what the definition gives has this length
+pub box-length : (policy : GdsRoundingPolicy) (d : Float) (e : S.Box) (w : D.Shape) → Yields (writeBox policy d e) w → length (boxBytes w) ≡ boxLength
+unfolding writeBox
+box-length policy d e w y =
+    let k = steps (then-steps y .then) in
+    let c = box-cornered policy d (e .first) (e .second) (k .value) (k .first) in
+    ap (λ (v : D.Shape). length (boxBytes v)) (sym (made-yields (checked R.NotClosed (k .then) .then)))
+    ∙ ap (λ (ps : List (Point ℤ)). length (boxBytes (record { layer = e .layer; datatype = e .boxtype; points = ps }))) (c .points)
+    ∙ length-box (e .layer) (e .boxtype) (c .corner) (c .opposite)
 
 -- corners as the machine reads them back
 pub same-box : (s : BoxPlaces) {n : ℕ} {d d′ : List ℕ} {at to : ℕ} {x1 y1 x2 y2 z1 w1 z2 w2 : ℤ} → z1 ≡ x1 → w1 ≡ y1 → z2 ≡ x2 → w2 ≡ y2
@@ -123,10 +131,10 @@ pub five-points : (p q : Point ℤ) {d1 d2 d3 d4 d5 d6 : List ℕ} {a1 a2 a3 a4 
 five-points p q w1 w2 w3 w4 w5 = then-at w1 (then-at w2 (then-at w3 (then-at w4 (same-bytes (sym (append-nil _)) w5))))
 
 pub box-placed : (s : BoxPlaces) (x1 y1 x2 y2 : ℤ) {d1 d2 d3 d4 d5 : List ℕ} {a1 a2 a3 a4 a5 : ℕ}
-    → Recorded (emptyRecord BOX) 4 d1 d2 a1 a2
-    → Recorded (wordRecord LAYER (s .layer)) 6 d2 d3 a2 a3
-    → Recorded (wordRecord BOXTYPE (s .boxtype)) 6 d3 d4 a3 a4
-    → Recorded (xyRecord (boxPoints (corner x1 y1) (corner x2 y2))) 44 d4 d5 a4 a5
-    → Placed (boxBytes (boxOf s x1 y1 x2 y2)) 60 d1 d5 a1 a5
+    → Recorded (emptyRecord BOX) recordHead d1 d2 a1 a2
+    → Recorded (wordRecord LAYER (s .layer)) wordRecordLength d2 d3 a2 a3
+    → Recorded (wordRecord BOXTYPE (s .boxtype)) wordRecordLength d3 d4 a3 a4
+    → Recorded (xyRecord (boxPoints (corner x1 y1) (corner x2 y2))) boxXyLength d4 d5 a4 a5
+    → Placed (boxBytes (boxOf s x1 y1 x2 y2)) boxLength d1 d5 a1 a5
 unfolding shapeRecords
 box-placed s x1 y1 x2 y2 w1 w2 w3 w4 = then-rest _ _ w1 (then-rest _ _ w2 (then-rest _ _ w3 (alone _ w4)))

@@ -32,7 +32,7 @@ use Rattle.boxes.specs.code.Box.{corner, valueIn, Accepted, Counted, Las
 -- ---- one point
 
 -- a point that is recorded at (a, b): neither coordinate is refused, and these are their values
-pub record Recorded (place : ℕ) (cx cy : Conversion) (e : Entry) (a b : ℤ) (e′ : Entry) : Type 0 where
+pub record PointRecorded (place : ℕ) (cx cy : Conversion) (e : Entry) (a b : ℤ) (e′ : Entry) : Type 0 where
   pub x : a ≡ valueIn cx
   pub y : b ≡ valueIn cy
   pub acceptedX : Accepted cx
@@ -50,7 +50,7 @@ module _ (place : ℕ) (e : Entry) where
   values (C.Quantized x p t) (C.Converted y) a b e′ h = let i = h .is in (cc, (cc, (tt, tt)))
   values (C.Quantized x p t) (C.Quantized y q u) a b e′ h = let i = h .is in (cc, (cc, (tt, tt)))
 
-  pub recorded : (cx cy : Conversion) (r : Pointed) → GivesPoint e (both pointField place cx cy) r → (a b : ℤ) (e′ : Entry) → r ≡ P.At a b e′ → Recorded place cx cy e a b e′
+  pub recorded : (cx cy : Conversion) (r : Pointed) → GivesPoint e (both pointField place cx cy) r → (a b : ℤ) (e′ : Entry) → r ≡ P.At a b e′ → PointRecorded place cx cy e a b e′
   recorded cx cy r h a b e′ g =
       let k = subst (GivesPoint e (both pointField place cx cy)) g h in
       let v = values cx cy a b e′ k in

@@ -15,7 +15,7 @@ ghost use Rattle.forms.specs.code.Forms.{boxAt, BoxIn};
 ghost use Rattle.records.specs.code.Bytes.{Placed, Recorded};
 ghost use Rattle.steps.specs.code.Ready.{stopped, ready};
 ghost use Rattle.steps.specs.code.Steps.{maxDeviations, Measures, Succeeds, Writes};
-ghost use Rattle.boxes.specs.code.Box.{xyLength, boxLength, boxDeviations, boxBytes, corner, Accepted, Counted, LastCounted, Converted, pointsOf, boxOf, readyOf};
+ghost use Rattle.boxes.specs.code.Box.{boxXyLength, boxLength, boxDeviations, boxBytes, corner, Accepted, Counted, LastCounted, Converted, pointsOf, boxOf, readyOf};
 use conversion::Conversion;
 use conversion::CoordinateConverter;
 use conversion::Entry;
@@ -29,7 +29,7 @@ use steps::Written;
 use validation::Check;
 
 // The bytes of XY, with its five points, and of BOX, LAYER, BOXTYPE and XY.
-const XY_LENGTH: u16 = 44;
+const BOX_XY_LENGTH: u16 = 44;
 
 const BOX_LENGTH: usize = 60;
 
@@ -183,10 +183,10 @@ pub fn measure_box(
 
 // XY of the five points.
 fn put_xy(out: &mut [u8], at: usize, x1: i32, y1: i32, x2: i32, y2: i32) -> usize
-    requires { ⌜ at + xyLength ≤ length (now out) ⌝ }
-    ensures { λ r. ⌜ Recorded (xyRecord (boxPoints (corner x1 y1) (corner x2 y2))) xyLength (now (out .entry)) (now (out .exit)) at r ⌝ }
+    requires { ⌜ at + boxXyLength ≤ length (now out) ⌝ }
+    ensures { λ r. ⌜ Recorded (xyRecord (boxPoints (corner x1 y1) (corner x2 y2))) boxXyLength (now (out .entry)) (now (out .exit)) at r ⌝ }
 {
-    let a1 = records::put_head_at(out, at, XY_LENGTH, records::XY, records::FOUR_BYTE);
+    let a1 = records::put_head_at(out, at, BOX_XY_LENGTH, records::XY, records::FOUR_BYTE);
     let a2 = coordinate::put_point(out, a1, x1, y1);
     let a3 = coordinate::put_point(out, a2, x2, y1);
     let a4 = coordinate::put_point(out, a3, x2, y2);

@@ -85,7 +85,7 @@ pub record AlikeInstances (policy : GdsRoundingPolicy) (d : Float) (columns rows
 
 -- ---- boxes
 
--- of the corners (x1, y1) and (x2, y2): (x1, y1) (x2, y1) (x2, y2) (x1, y2) (x1, y1)
+-- "those of `GdsBox::points`", coordinate by coordinate: of the corners (x1, y1) and (x2, y2), the points (x1, y1) (x2, y1) (x2, y2) (x1, y2) (x1, y1)
 abbrev pub outline : Point ℤ → Point ℤ → List (Point ℤ)
 outline p q =
     record { x = p .x; y = p .y }

@@ -11,25 +11,24 @@ use Rattle.big_endian.specs.Big.{numberAt}
 use Rattle.conversion.specs.declared.GdsRoundingPolicy.{GdsRoundingPolicy}
 use Rattle.conversion.specs.declared.Deviation.{Deviation}
 use Rattle.conversion.specs.Made.{made}
-use Rattle.conversion.proofs.MadeLaws.{Yields, made-yields, steps, checked, then-steps}
+use Rattle.conversion.proofs.MadeLaws.{Yields, made-yields, steps, checked}
 use Rattle.stream.specs.Structure as D
-use Rattle.stream.specs.Record.{BOUNDARY, DATATYPE, NODE, NODETYPE, BOX, BOXTYPE, ENDEL}
+use Rattle.stream.specs.Record.{BOUNDARY, DATATYPE, NODE, NODETYPE, ENDEL}
 use Rattle.stream.specs.Records.{emptyRecord}
 use Rattle.cell.specs.Limits.{minPolygonPoints, maxPoints, minNodePoints, maxNodePoints}
-use Rattle.cell.specs.Write.{isSome, boxPoints, writePolygon, writeNode, writeBox, writeBody, writeProperties}
+use Rattle.cell.specs.Write.{isSome, writePolygon, writeNode, writeBody, writeProperties}
 use Rattle.records.proofs.RecordLaws.{length-record}
 use Rattle.forms.specs.declared.BodyPlaces.{BodyPlaces}
 use Rattle.forms.specs.declared.BodyPlaces.the-variants as B
 use Rattle.forms.specs.declared.ShapePlaces.{ShapePlaces}
-use Rattle.forms.specs.declared.BoxPlaces.{BoxPlaces}
-use Rattle.forms.specs.code.Place.{valuesFrom, placeFrom, pointAt, propertyAt, propertyEnd, propertiesFrom}
+use Rattle.forms.specs.code.Place.{valuesFrom, placeFrom, propertyAt, propertyEnd, propertiesFrom}
 use Rattle.forms.specs.code.Forms.{shapeAt, pathAt, boxAt, bodyAt, BodyIn}
-use Rattle.points.proofs.WalkLaws.{length-from, length-made}
+use Rattle.points.proofs.WalkLaws.{length-from}
 use Rattle.transform.specs.code.Strans.{transformLength}
 use Rattle.transform.proofs.StransLaws.{length-small}
 use Rattle.polygon_node.specs.code.Shape.{polygonBytes, nodeBytes, shapeLength}
-use Rattle.polygon_node.proofs.ShapeLaws.{shape-bytes-length, shape-length}
-use Rattle.boxes.specs.code.Box.{boxBytes, boxLength}
+use Rattle.polygon_node.proofs.ShapeLaws.{shape-length}
+use Rattle.boxes.proofs.BoxLaws.{box-length}
 use Rattle.path.specs.code.Length.{pathBytes, pathLength, flagsLength}
 use Rattle.path.proofs.PathLaws.{path-length}
 use Rattle.text.specs.code.Text.{textBytes, textLength}
@@ -56,16 +55,6 @@ module _ (policy : GdsRoundingPolicy) (d : Float) (b : List ℕ) where
   unfolding writeNode
   node-length s w y = sym (shape-length policy d minNodePoints maxNodePoints b s w (y .log) NODE NODETYPE (y .is))
 
-  -- a box has five points
-  box-length : (s : BoxPlaces) (w : D.Shape) → Yields (writeBox policy d (boxAt b s)) w → length (boxBytes w) ≡ boxLength
-  unfolding writeBox boxAt
-  box-length s w y =
-      let k = steps (then-steps y .then) in
-      let e = made-yields (checked R.NotClosed (k .then) .then) in
-      ap (λ (v : D.Shape). length (boxBytes v)) (sym e)
-      ∙ shape-bytes-length BOX BOXTYPE _
-      ∙ ap shapeLength (length-made policy d 0 (boxPoints (pointAt b (s .first)) (pointAt b (s .second))) (k .value) (k .first .log) (k .first .is))
-
   yields-length : (s : BodyPlaces) (w : D.SaidBody) → BodyIn b s → Yields (writeBody policy d (bodyAt b s)) w → length (bodyBytes w) ≡ bodyLength b s
   unfolding bodyBytes bodyLength writeBody pathBytes textBytes referenceBytes
   yields-length (B.Polygon s) w i y =
@@ -79,7 +68,7 @@ module _ (policy : GdsRoundingPolicy) (d : Float) (b : List ℕ) where
       let k = steps y in ap (λ (v : D.SaidBody). length (bodyBytes v)) (sym (made-yields (k .then))) ∙ node-length s (k .value) (k .first)
   yields-length (B.Reference s) w i y = reference-length policy d b s (i .name-in) w y
   yields-length (B.Box s) w i y =
-      let k = steps y in ap (λ (v : D.SaidBody). length (bodyBytes v)) (sym (made-yields (k .then))) ∙ box-length s (k .value) (k .first)
+      let k = steps y in ap (λ (v : D.SaidBody). length (bodyBytes v)) (sym (made-yields (k .then))) ∙ box-length policy d (boxAt b s) (k .value) (k .first)
 
 -- what the definition gives has the length that the block tells
 pub body-length : (policy : GdsRoundingPolicy) (d : Float) (b : List ℕ) (s : BodyPlaces) (w : D.SaidBody) (vs : List Deviation) → BodyIn b s

@@ -1,5 +1,6 @@
 -- Boxes that were read are canonical. Assumes nothing.
 use mathlib.Core.Path.{_≡_, refl, sym, ap, ap₂, _∙_}
+use mathlib.Core.Bool.{true}
 use mathlib.Core.List.{List, [], _∷_}
 use Prim.Native.Nat.{ℕ, zero, suc}
 use lib.Dec.{T, lit<}
@@ -21,7 +22,7 @@ use Rattle.stream.proofs.Fit.{FitPoint}
 use Rattle.cell.specs.Limits.{maxDataType}
 use Rattle.cell.specs.Write.{samePoint, closed, boxPoints, writeBox, writeBody}
 use Rattle.cell.proofs.BoxLaws.{own-point}
-use Rattle.reading.specs.Box.{pointAt, firstPoint, thirdPoint, samePoints, isBox}
+use Rattle.reading.specs.Box.{nthPoint, firstPoint, thirdPoint, samePoints, isBox}
 use Rattle.reading.specs.Limits.{recordLimit}
 use Rattle.reading.proofs.Kept.{Limited, KeptShape}
 use Rattle.reading.proofs.ItemLaws.{box-limit}
@@ -46,9 +47,14 @@ given-by : (ps : List (Point ℤ)) → T (isBox ps) → ps ≡ boxPoints (firstP
 unfolding isBox
 given-by ps t = points-are ps (boxPoints (firstPoint ps) (thirdPoint ps)) t
 
+-- whatever two corners give is a box
+pub gives-box : (p q : Point ℤ) → isBox (boxPoints p q) ≡ true
+unfolding isBox nthPoint
+gives-box p q = rw (own-point p, own-point q, own-point (record { x = q .x; y = p .y }), own-point (record { x = p .x; y = q .y }))
+
 -- a point of the list, or (0, 0)
-place-fit : (n : ℕ) (ps : List (Point ℤ)) → All FitPoint ps → FitPoint (pointAt n ps)
-unfolding pointAt
+place-fit : (n : ℕ) (ps : List (Point ℤ)) → All FitPoint ps → FitPoint (nthPoint n ps)
+unfolding nthPoint
 place-fit n [] h = record { x = record { sfits = lit< tt }; y = record { sfits = lit< tt } }
 place-fit zero (p ∷ ps) (more h hs) = h
 place-fit (suc n) (p ∷ ps) (more h hs) = place-fit n ps hs

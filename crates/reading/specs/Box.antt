@@ -6,17 +6,17 @@ use lib.IntN.{ℤ, pos}
 use Rattle.units.specs.Point.{Point}
 use Rattle.cell.specs.Write.{samePoint, boxPoints}
 
--- the point at a place, from 0 on; where there is none, (0, 0)
-unfoldable pub pointAt : ℕ → List (Point ℤ) → Point ℤ
-pointAt n [] = record { x = pos 0; y = pos 0 }
-pointAt zero (p ∷ ps) = p
-pointAt (suc n) (p ∷ ps) = pointAt n ps
+-- the nth point, from 0 on; where there is none, (0, 0)
+unfoldable pub nthPoint : ℕ → List (Point ℤ) → Point ℤ
+nthPoint n [] = record { x = pos 0; y = pos 0 }
+nthPoint zero (p ∷ ps) = p
+nthPoint (suc n) (p ∷ ps) = nthPoint n ps
 
 abbrev pub firstPoint : List (Point ℤ) → Point ℤ
-firstPoint = pointAt 0
+firstPoint = nthPoint 0
 
 abbrev pub thirdPoint : List (Point ℤ) → Point ℤ
-thirdPoint = pointAt 2
+thirdPoint = nthPoint 2
 
 abbrev pub samePoints : List (Point ℤ) → List (Point ℤ) → Bool
 samePoints [] [] = true
@@ -24,6 +24,6 @@ samePoints [] (q ∷ qs) = false
 samePoints (p ∷ ps) [] = false
 samePoints (p ∷ ps) (q ∷ qs) = samePoint p q && samePoints ps qs
 
--- Two corners give these points: if any do, then the first and the third.
+-- "a BOX that .. two corners give": if any do, then the first and the third (law `gives-box`)
 unfoldable pub isBox : List (Point ℤ) → Bool
 isBox ps = samePoints ps (boxPoints (firstPoint ps) (thirdPoint ps))

@@ -1,4 +1,4 @@
--- The sheet of a cell (document 02, request 8): the bytes that document 01's forms ("Input") read as that cell. Assumes nothing.
+-- The sheet of a cell (document 02, request 8): the bytes that the forms of document 01 ("Input") and of request 3 read as that cell. Assumes nothing.
 use mathlib.Core.Bool.{Bool, cond}
 use mathlib.Core.Option.{Option, none, some}
 use mathlib.Core.List.{List, [], _∷_, _++_}

@@ -8,7 +8,7 @@ use lib.Ieee.Bits.{is-true}
 use borrow.Author.Tests.{leb-true}
 use Rattle.refusal.specs.declared.Refusal.{Refusal}
 use Rattle.refusal.specs.declared.Refusal.the-variants as R
-use Rattle.conversion.specs.Made.{Made, refused, pure, need, _>>=_, _>>_}
+use Rattle.conversion.specs.Made.{Made, Done, refused, pure, need, _>>=_, _>>_}
 use Rattle.conversion.proofs.MadeLaws.{Yields, checked, needed, then-steps, need-on, need-off, refused-on, pure-on}
 use Rattle.cell.specs.Limits.{within, maxLayer, maxDataType}
 use Rattle.cell.specs.Write.{layerAndType}
@@ -31,6 +31,13 @@ module _ (layer datatype : ℕ) where
     pub both-pass : leb datatype maxDataType ≡ true → pure tt ≡ layerAndType layer datatype
     unfolding need
     both-pass b = sym (layered ∙ ap (λ (t : Bool). need t R.LayerOrType) b)
+
+  -- a step that is not refused has passed both
+  pub both-yield : {u : Done} → Yields (layerAndType layer datatype) u → pure tt ≡ layerAndType layer datatype
+  unfolding layerAndType
+  both-yield y =
+      let k = checked R.LayerOrType y in
+      both-pass (is-true _ (k .passed)) (is-true _ (needed (leb datatype maxDataType) R.LayerOrType (k .then)))
 
 module _ (least n most layer datatype : ℕ) where
   pub count-stops : within least n most ≡ false → refused R.PointCount ≡ shapeChecks least n most layer datatype
@@ -75,8 +82,6 @@ module _ (least n most layer datatype : ℕ) where
 
     -- a step that is not refused behind them has passed them
     pub behind-yields : {a : A} → Yields behind a → pure tt ≡ shapeChecks least n most layer datatype
-    unfolding layerAndType
     behind-yields y =
         let count = checked R.PointCount y in
-        let layer-type = checked R.LayerOrType (then-steps (count .then) .first) in
-        both-pass layer datatype (is-true _ (layer-type .passed)) (is-true _ (needed (leb datatype maxDataType) R.LayerOrType (layer-type .then))) ∙ sym (counted (is-true _ (count .passed)))
+        both-yield layer datatype (then-steps (count .then) .first) ∙ sym (counted (is-true _ (count .passed)))

@@ -1,6 +1,5 @@
 -- `boxes::count_last` meets its contract: one point, then the other. Assumes nothing.
 use native.Mathlib.Omega.{arith}
-use borrow.Author.Needs.{needs}
 use Rattle.boxes.proofs.count_last.Statement.{statement}
 use Rattle.boxes.proofs.count_last.Tie as tie
 

@@ -4,14 +4,14 @@ use native.Mathlib.Omega.{arith}
 use mir.Syntax.{w32}
 use mir.Val.{SFits}
 use mir.ValLaws.{toZ-ofZ}
-use Rattle.boxes.proofs.PointsLaws.{Recorded, recorded, same-corners, first-refused, second-refused, third-refused, all-counted}
+use Rattle.boxes.proofs.PointsLaws.{PointRecorded, recorded, same-corners, first-refused, second-refused, third-refused, all-counted}
 use borrow.Author.Needs.{needs}
 use Rattle.boxes.proofs.count_points.Statement.{statement}
 use Rattle.boxes.proofs.count_points.Tie as tie
 
 -- ---- the first three points, where they are not refused
 
-first : (k : tie.After-x1) → let a = k .before .before .before .args in let g = k .x1 .given in Recorded 0 (a .corners .x1) (a .corners .y1) (a .entry) (g .0 .0) (g .0 .1 .0) (g .0 .1 .1 .0)
+first : (k : tie.After-x1) → let a = k .before .before .before .args in let g = k .x1 .given in PointRecorded 0 (a .corners .x1) (a .corners .y1) (a .entry) (g .0 .0) (g .0 .1 .0) (g .0 .1 .1 .0)
 first k =
     let a = k .before .before .before .args in
     let r = k .before .before .record-point in
@@ -19,7 +19,7 @@ first k =
     recorded 0 (a .entry) (a .corners .x1) (a .corners .y1) (r .result) (r .ensures) (g .0 .0) (g .0 .1 .0) (g .0 .1 .1 .0) (g .1)
 
 second : (k : tie.After-x2) → let e = k .before .before .before .before in let a = e .before .before .before .args in let g = k .x2 .given in
-    Recorded 1 (a .corners .x2) (a .corners .y1) (e .x1 .given .0 .1 .1 .0) (g .0 .0) (g .0 .1 .0) (g .0 .1 .1 .0)
+    PointRecorded 1 (a .corners .x2) (a .corners .y1) (e .x1 .given .0 .1 .1 .0) (g .0 .0) (g .0 .1 .0) (g .0 .1 .1 .0)
 second k =
     let e = k .before .before .before .before in
     let a = e .before .before .before .args in
@@ -28,7 +28,7 @@ second k =
     recorded 1 (e .x1 .given .0 .1 .1 .0) (a .corners .x2) (a .corners .y1) (r .result) (r .ensures) (g .0 .0) (g .0 .1 .0) (g .0 .1 .1 .0) (g .1)
 
 third : (k : tie.After-y2) → let f = k .before .before .before .before in let a = f .before .before .before .before .before .before .before .args in let g = k .y2 .given in
-    Recorded 2 (a .corners .x2) (a .corners .y2) (f .x2 .given .0 .1 .1 .0) (g .0 .0) (g .0 .1 .0) (g .0 .1 .1 .0)
+    PointRecorded 2 (a .corners .x2) (a .corners .y2) (f .x2 .given .0 .1 .1 .0) (g .0 .0) (g .0 .1 .0) (g .0 .1 .1 .0)
 third k =
     let f = k .before .before .before .before in
     let a = f .before .before .before .before .before .before .before .args in

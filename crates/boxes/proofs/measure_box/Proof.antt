@@ -1,7 +1,7 @@
 -- `boxes::measure_box` meets its contract: a refusal, or the length that all boxes have. Assumes nothing.
 use mathlib.Core.Path.{sym, ap}
 use Rattle.steps.proofs.ReadyLaws.{measure-stopped, measure-ready}
-use Rattle.boxes.specs.code.Box.{boxBytes, boxOf, readyOf}
+use Rattle.boxes.specs.code.Box.{boxBytes, corner, boxOf, readyOf}
 use Rattle.boxes.proofs.BoxLaws.{length-box}
 use borrow.Author.Needs.{needs}
 use Rattle.boxes.proofs.measure_box.Statement.{statement}
@@ -34,7 +34,7 @@ returns-2 c =
     let y1 = g .0 .1 .0 in
     let x2 = g .0 .1 .1 .0 in
     let y2 = g .0 .1 .1 .1 .0 in
-    measure-ready (a .entry) _ (readyOf (a .places) (r .result)) (r .ensures) boxBytes (boxOf (a .places) x1 y1 x2 y2) (g .0 .1 .1 .1 .1 .0) _ (ap (readyOf (a .places)) (g .1)) (sym (length-box (a .places) x1 y1 x2 y2))
+    measure-ready (a .entry) _ (readyOf (a .places) (r .result)) (r .ensures) boxBytes (boxOf (a .places) x1 y1 x2 y2) (g .0 .1 .1 .1 .1 .0) _ (ap (readyOf (a .places)) (g .1)) (sym (length-box _ _ (corner x1 y1) (corner x2 y2)))
 
 pub measure-box-spec : {M : Type 1} → statement M
 measure-box-spec =

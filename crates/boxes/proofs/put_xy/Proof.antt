@@ -6,7 +6,7 @@ use Rattle.stream.specs.Records.{xyRecord}
 use Rattle.cell.specs.Write.{boxPoints}
 use Rattle.records.proofs.RecordLaws.{record-at}
 use Rattle.coordinate.proofs.ValueLaws.{same-point}
-use Rattle.boxes.specs.code.Box.{corner}
+use Rattle.boxes.specs.code.Box.{boxXyLength, corner}
 use Rattle.boxes.proofs.BoxLaws.{five-points}
 use borrow.Author.Needs.{needs}
 use Rattle.boxes.proofs.put_xy.Statement.{statement}
@@ -47,7 +47,7 @@ returns c =
     let y1 = toZ-ofZ w32 (a .y1) (s .fits .y1) in
     let x2 = toZ-ofZ w32 (a .x2) (s .fits .x2) in
     let y2 = toZ-ofZ w32 (a .y2) (s .fits .y2) in
-    record-at (xyRecord (boxPoints (corner (a .x1) (a .y1)) (corner (a .x2) (a .y2)))) 44 refl (at-head .put-head-at .ensures .wrote)
+    record-at (xyRecord (boxPoints (corner (a .x1) (a .y1)) (corner (a .x2) (a .y2)))) boxXyLength refl (at-head .put-head-at .ensures .wrote)
     (five-points (corner (a .x1) (a .y1)) (corner (a .x2) (a .y2)) (same-point x1 y1 (at-first .put-point .ensures)) (same-point x2 y1 (at-second .put-point2 .ensures)) (same-point x2 y2 (at-third .put-point3 .ensures))
     (same-point x1 y2 (at-fourth .put-point4 .ensures)) (same-point x1 y1 (at-fifth .put-point5 .ensures)))
 

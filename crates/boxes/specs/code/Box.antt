@@ -2,7 +2,7 @@
 use mathlib.Core.Path.{_≡_}
 use mathlib.Core.Bool.{true, false}
 use mathlib.Core.List.{List, []}
-use Prim.Native.Nat.{ℕ}
+use Prim.Native.Nat.{ℕ, _+_, _*_}
 use lib.Dec.{T}
 use lib.IntN.{ℤ, pos}
 use lib.Ieee.{Float}
@@ -19,6 +19,7 @@ use Rattle.stream.specs.Structure as D
 use Rattle.stream.specs.Record.{BOX, BOXTYPE, streamBytes}
 use Rattle.stream.specs.Records.{shapeRecords}
 use Rattle.cell.specs.Write.{boxPoints}
+use Rattle.records.specs.code.Bytes.{recordHead, wordRecordLength, xyPointLength}
 use Rattle.forms.specs.declared.BoxPlaces.{BoxPlaces}
 use Rattle.coordinate.specs.declared.Pointed.the-variants as P
 use Rattle.coordinate.specs.code.Coordinate.{GivesPoint, both}
@@ -32,13 +33,13 @@ use Rattle.boxes.specs.declared.BoxValues.the-variants as X
 abbrev pub boxBytes : D.Shape → List ℕ
 boxBytes w = streamBytes (shapeRecords BOX BOXTYPE w [])
 
--- XY has a head of 4 bytes and five points of 8
-abbrev pub xyLength : ℕ
-xyLength = 44
+-- XY of five points
+abbrev pub boxXyLength : ℕ
+boxXyLength = recordHead + 5 * xyPointLength
 
--- BOX of 4 bytes, LAYER and BOXTYPE of 6 each, XY
+-- BOX, LAYER, BOXTYPE, XY
 abbrev pub boxLength : ℕ
-boxLength = 60
+boxLength = recordHead + (wordRecordLength + (wordRecordLength + boxXyLength))
 
 -- ---- its points
 
