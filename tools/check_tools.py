@@ -9,8 +9,9 @@ lengthened, it must be turned back with the byte; an entry's error has the sign 
 has its words; the answer must be the model's, and where the static library is built the proved library's, which is also
 asked for the bounds and surveys of tools/bounds_cases.txt and tools/survey_cases.txt. Then, whatever the files: faulty
 texts and faulty lines of cases get their message and nothing else; faulty calls of each tool too, and a full disk and a
-closed pipe end it (tools/tool_calls.py); what is stored in crates/test_vectors, crates/test_conversions and crates/cases is
-what the tools make; and refusals have the same numbers and words in crates/refusal, in the command and in exports/.
+closed pipe end it (tools/tool_calls.py); what is stored in crates/test_vectors, crates/test_conversions and crates/cases,
+and the sheets that the builders in exports/ are held to, is what the tools make; and refusals have the same numbers and
+words in crates/refusal, in the command and in exports/.
 
 The last line counts. Exit status: 0 where nothing is wrong, 1 where something is or a file cannot be read, 2 where it was
 called wrongly.
@@ -275,10 +276,19 @@ def bad_cases(count):
 # ---- what is stored twice
 
 
+def built_sheets():
+    """What the builders in C and Rust are held to: the sheets of a text of a cell and of one of a library."""
+    def line(path, job):
+        _, _, read_text, bytes_of = FORMS[job]
+        return bytes_of(read_text(files.read_input(os.path.join(ROOT, path)).decode("utf-8"))).hex() + "\n"
+    return (line("exports/sheet_test.cell", CELL) + line("tools/samples/format.library", LIBRARY)).encode("ascii")
+
+
 def stored_files(count):
-    """What the tools make is what the crates have."""
+    """What the tools make is what the crates and exports/ have."""
     made = {"crates/test_vectors/stdin": pack_cases.pack(pack_cases.all_cases())[0], "crates/test_conversions/stdin": conversions.records()}
     made.update(computed_cases.made(list(map(tool_calls.stored, pack_cases.NAMES)))[0])
+    made["exports/sheet_test.hex"] = built_sheets()
     for path, data in made.items():
         count.made += 1
         if files.read_input(os.path.join(ROOT, path)) != data:
