@@ -462,6 +462,34 @@ def report():
     yield "the greatest error is the second entry's", cell(node([at(0.25, 0)]), node([at(0.5, 0)]), node([at(0.125, 0)]))
 
 
+# ---- lists of points whose first ones pass unchanged: the places of the others in the report, their refusals, and the ends
+
+
+PASSING = [at(0, 0), at(7, -3), at(BIG, 5), at(SMALL, 9), at(2, 2)]
+
+
+def fronts():
+    off = at(0.25, 1.5)
+    for k in range(len(PASSING) + 1):
+        yield f"{k} points pass, then one off the grid", cell(path(PASSING[:k] + [off, at(1, 1)]))
+    yield "the last point alone is off the grid", cell(path(PASSING + [off]))
+    yield "x passes, y does not", cell(path(PASSING[:2] + [(whole(4), real(2.5)), at(3, 3)]))
+    yield "y passes, x does not", cell(path(PASSING[:2] + [(real(2.5), whole(4)), at(3, 3)]))
+    yield "points that pass between points off the grid", cell(node([at(1, 2), off, at(3, 4), at(0.5, 6), at(7, 8)]))
+    yield "after a width, the first point is at fault", cell(path([off, at(1, 1)], width=real(1.25)))
+    yield "after a width, a point behind two that pass", cell(path(PASSING[:2] + [off], width=real(1.25)))
+    yield "integers of another unit in front are converted", cell(path([(whole(3, 0.75), whole(1))] + PASSING[:2] + [off]))
+    yield "doubles on the grid in front are converted", cell(path([at(3.0, 1.0)] + PASSING[:2] + [off]))
+    yield "integers in unit d = 1e-9, then micrometres", cell(path([(whole(5, 1e-9), whole(6, 1e-9)), (real(1.23456, 1e-6), whole(1, 1e-9))]), d=1e-9)
+    for k in (0, 1, 4):
+        yield f"strict, {k} points pass, then 18", cell(path(PASSING[:k] + [off, at(1, 1)]), policy=3)
+        yield f"{k} points pass, then 16", cell(path(PASSING[:k] + [(real(1.0, 0.0), whole(1)), at(1, 1)]))
+        yield f"{k} points pass, then 19", cell(path(PASSING[:k] + [at(1, 3e9), at(1, 1)]))
+    for why, last in (("closed by rounding", at(0.25, -0.25)), ("open in x", at(0.5, 0)), ("open in y", at(0, 0.75))):
+        yield f"the first points pass, the last is converted, {why}", cell(polygon(SQUARE[:3] + [last]))
+    yield "the first point is converted, the others pass", cell(polygon([at(0.25, 0)] + SQUARE[1:]))
+
+
 # ---- the side of the grid: an entry's error is above 0 where the database value lies above
 
 
@@ -912,8 +940,8 @@ def library_mixed():
 
 
 GROUPS = (caller, pairs, lengths, codes, coordinates, stamps, names, counts, layers, strings, grids, transforms, turns, units, finite,
-          rounding, competing, ends, report, sides, greatest_below, infinite_sides, array_sides, boxes, box_form, box_order, box_report,
-          arrays, buffers, mixed)
+          rounding, competing, ends, report, fronts, sides, greatest_below, infinite_sides, array_sides, boxes, box_form, box_order,
+          box_report, arrays, buffers, mixed)
 
 
 LIBRARY_GROUPS = (library_caller, library_pairs, library_front, library_stamps, library_units, library_names, library_faults,

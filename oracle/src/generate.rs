@@ -207,14 +207,27 @@ impl Maker<'_> {
         } else {
             self.random.between(least, (least + 8).min(greatest))
         };
-        if count <= 60 {
-            return (0..count).map(|_| self.place()).collect();
+        let mut points: Vec<Place> = if count <= 60 {
+            (0..count).map(|_| self.place()).collect()
+        } else {
+            // long lists repeat a few points, so that most of them are accepted
+            let wild = std::mem::replace(&mut self.wild, 0);
+            let few: Vec<Place> = (0..9).map(|_| self.place()).collect();
+            self.wild = wild;
+            (0..count).map(|i| few[i % few.len()]).collect()
+        };
+        if self.random.often(300) {
+            self.front_in_unit(&mut points);
         }
-        // long lists repeat a few points, so that most of them are accepted
-        let wild = std::mem::replace(&mut self.wild, 0);
-        let few: Vec<Place> = (0..9).map(|_| self.place()).collect();
-        self.wild = wild;
-        (0..count).map(|i| few[i % few.len()]).collect()
+        points
+    }
+
+    /// Makes integers in the database unit, which pass unchanged, of the first points or of all.
+    fn front_in_unit(&mut self, points: &mut [Place]) {
+        let count = self.random.between(0, points.len());
+        for coordinate in points[..count].iter_mut().flatten() {
+            *coordinate = Coordinate::Integer { value: self.random.below(200_001) as i32 - 100_000, unit: self.d };
+        }
     }
 
     fn closed(&mut self, mut points: Vec<Place>) -> Vec<Place> {

@@ -13,6 +13,11 @@ pub fn off_grid(random: &mut Random) -> Coordinate {
     within(random, 1e3)
 }
 
+/// The same of a greater layout.
+pub fn far_off_grid(random: &mut Random) -> Coordinate {
+    within(random, 1e5)
+}
+
 fn whole(random: &mut Random) -> i32 {
     random.below(2_000_001) as i32 - 1_000_000
 }
@@ -41,8 +46,13 @@ fn polygon(points: Vec<Place>) -> Element {
     Element { body: Body::Shape { kind: 1, layer: 1, data_type: 2, points }, properties: vec![] }
 }
 
-pub fn long_polygon(random: &mut Random, doubles: bool) -> Vec<Element> {
-    let points = closed(8191, || if doubles { within(random, 1e5) } else { integer(random) });
+/// Of 8,191 points; which coordinate stands where goes by its number, from 0.
+pub fn long_polygon(mut coordinate: impl FnMut(usize) -> Coordinate) -> Vec<Element> {
+    let mut number = 0;
+    let points = closed(8191, || {
+        number += 1;
+        coordinate(number - 1)
+    });
     vec![polygon(points)]
 }
 

@@ -29,7 +29,7 @@ use Rattle.conversion.specs.Points.{spot}
 use Rattle.conversion.proofs.FoldLaws.{run-pure}
 use Rattle.conversion.proofs.MadeLaws.{refused-on, pure-on}
 use Rattle.sheet.specs.Form.{absentKind}
-use Rattle.forms.specs.code.Place.{pointAt, spacingAt}
+use Rattle.block_places.specs.code.Place.{pointAt, spacingAt}
 use Rattle.steps.proofs.StepLaws.{run-through}
 use Rattle.coordinate.specs.declared.Valued.{Valued}
 use Rattle.coordinate.specs.declared.Valued.the-variants as G

@@ -5,17 +5,17 @@ ghost use lib.ListN.{length};
 ghost use Rattle.conversion.specs.code.Answer.{pointOf};
 ghost use Rattle.conversion.specs.Array.{physicalPoint, physicalSpacing, writePhysical, writeEndpoint, convertArray};
 ghost use Rattle.conversion.specs.code.Fold.{Spare, run};
-ghost use Rattle.forms.specs.code.Place.{pointAt, spacingAt, pointLength};
-ghost use Rattle.forms.specs.code.Forms.{ReferenceIn};
+ghost use Rattle.block_places.specs.code.Place.{pointAt, spacingAt, pointLength};
+ghost use Rattle.block_places.specs.code.Places.{ReferenceIn};
 ghost use Rattle.array.specs.declared.Array.the-variants as Answer;
 ghost use Rattle.array.specs.code.Corners.{arrayDeviations, physicalsOf, physicalPart, databasePart, GivesArrayPoint, endOf, Ends, cornered, afterSteps, afterSpacings, afterOrigin};
+use block_places::ReferencePlaces;
 use conversion::CoordinateConverter;
 use conversion::Entry;
 use conversion::PhysicalPoint;
 use conversion::PhysicalValue;
 use coordinate::Pointed;
 use coordinate::Valued;
-use forms::ReferencePlaces;
 use refusal::Refusal;
 
 // The physical values of a point, or why there are none.
@@ -63,10 +63,13 @@ fn physical_point(b: &[u8], at: usize) -> Physical
     requires { ⌜ at + pointLength ≤ length (now b) ⌝ }
     ensures { λ r. ⌜ physicalsOf r ≡ physicalPoint (pointAt (now (b .entry)) at) ⌝ }
 {
-    match conversion::physical_value(forms::unit_at(b, at)) {
+    match conversion::physical_value(block_places::unit_at(b, at)) {
         PhysicalValue::Refused { refusal } => Physical::Refused { refusal },
         PhysicalValue::At { value: x } => {
-            match conversion::physical_value(forms::unit_at(b, at + forms::COORDINATE)) {
+            match conversion::physical_value(block_places::unit_at(
+                b,
+                at + block_places::COORDINATE,
+            )) {
                 PhysicalValue::Refused { refusal: refusal2 } => Physical::Refused {
                     refusal: refusal2,
                 },
@@ -83,7 +86,7 @@ fn physical_spacing(b: &[u8], at: usize) -> Physical
     requires { ⌜ at + pointLength ≤ length (now b) ⌝ }
     ensures { λ r. ⌜ physicalsOf r ≡ physicalSpacing (spacingAt (now (b .entry)) at) ⌝ }
 {
-    if forms::is_absent(b, at) {
+    if block_places::is_absent(b, at) {
         return Physical::At {
             point: PhysicalPoint { x: 0.0, y: 0.0 },
         };

@@ -1,6 +1,6 @@
 -- What is made of bytes is bytes, bytes and the number that they stand for, and a number's bytes by halves. Assumes nothing.
 use mathlib.Core.Path.{_≡_, refl, sym, ap, ap₂, _∙_, subst}
-use mathlib.Core.List.{List, [], _∷_, _++_}
+use mathlib.Core.List.{List, [], _∷_, _++_, append-assoc}
 use Prim.Native.Nat.{ℕ, zero, suc, _+_, _*_, _/_, _%_, _^_, _≤_, _<_}
 use native.Mathlib.Nat.{pow-succ', mod-lt, mul-assoc, add-mul, add-assoc, div-div-eq-div-mul, add-comm, zero-add, suc-add, zero-mul, suc-mul, lt-of-not-le}
 use native.Mathlib.Decide.{decLe}
@@ -55,6 +55,10 @@ drop-bytes n s h i = subst (λ (z : ℕ). z < 256) (sym (getD-drop n s i 0)) (h 
 pub bytes-joined : {A : Type 0} (f : A → List ℕ) → ((a : A) → Bytes (f a)) → (s : List A) → Bytes (joined f s)
 bytes-joined f h [] = bytes-nil
 bytes-joined f h (a ∷ s) = bytes-append (f a) (joined f s) (h a) (bytes-joined f h s)
+
+pub joined-append : {A : Type 0} (f : A → List ℕ) (s t : List A) → joined f (s ++ t) ≡ joined f s ++ joined f t
+joined-append f [] t = refl
+joined-append f (a ∷ s) t = ap (λ (l : List ℕ). f a ++ l) (joined-append f s t) ∙ sym (append-assoc (f a) (joined f s) (joined f t))
 
 -- each of k bytes
 pub length-joined : {A : Type 0} (f : A → List ℕ) (k : ℕ) → ((a : A) → length (f a) ≡ k) → (s : List A) → length (joined f s) ≡ length s * k

@@ -29,9 +29,9 @@ use Rattle.cell.proofs.BoxLaws.{box-cornered, box-closes}
 use Rattle.records.specs.code.Bytes.{recordHead, wordRecordLength, Placed, Recorded}
 use Rattle.records.proofs.RecordLaws.{then-rest, alone}
 use Rattle.validation.proofs.CheckLaws.{both-yield}
-use Rattle.forms.specs.declared.BoxPlaces.{BoxPlaces}
-use Rattle.forms.specs.code.Place.{pointAt}
-use Rattle.forms.specs.code.Forms.{boxAt}
+use Rattle.block_places.specs.declared.BoxPlaces.{BoxPlaces}
+use Rattle.block_places.specs.code.Place.{pointAt}
+use Rattle.block_places.specs.code.Places.{boxAt}
 use Rattle.steps.specs.code.Ready.{Ready, stopped, ready}
 use Rattle.steps.specs.code.Steps.{Succeeds}
 use Rattle.steps.proofs.StepLaws.{run-through, yields}

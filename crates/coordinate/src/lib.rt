@@ -10,7 +10,7 @@ ghost use Rattle.conversion.specs.Convert.{Spot, convertUnit};
 ghost use Rattle.conversion.specs.Points.{spot, writePoint};
 ghost use Rattle.stream.specs.Records.{longBytes, xyRecord};
 ghost use Rattle.records.specs.code.Bytes.{xyPointLength, Recorded};
-ghost use Rattle.forms.specs.code.Place.{unitAt, pointAt, coordinateLength, pointLength};
+ghost use Rattle.block_places.specs.code.Place.{unitAt, pointAt, coordinateLength, pointLength};
 ghost use Rattle.coordinate.specs.code.Coordinate.{GivesValue, GivesPoint, both, plainOf, xyLength};
 use conversion::Conversion;
 use conversion::CoordinateConverter;
@@ -70,7 +70,7 @@ pub fn convert_at(converter: CoordinateConverter, b: &[u8], at: usize) -> Conver
     requires { ⌜ at + coordinateLength ≤ length (now b) ⌝ }
     ensures { λ r. ⌜ ((s : Spot) → outcome s r ≡ convertUnit (converter .policy) (converter .d) s (unitAt (now (b .entry)) at)) ⌝ }
 {
-    converter.convert_unit(forms::unit_at(b, at))
+    converter.convert_unit(block_places::unit_at(b, at))
 }
 
 // Both coordinates of a point, in their places, x before y.
@@ -119,7 +119,7 @@ pub fn convert_point(
     ensures { λ r. ⌜ GivesPoint entry (writePoint (converter .policy) (converter .d) field place (pointAt (now (b .entry)) at)) r ⌝ }
 {
     let cx = convert_at(converter, b, at);
-    let cy = convert_at(converter, b, at + forms::COORDINATE);
+    let cy = convert_at(converter, b, at + block_places::COORDINATE);
     record_point(cx, cy, field, place, entry)
 }
 

@@ -13,14 +13,14 @@ use Rattle.steps.specs.declared.Measured.{Measured}
 use Rattle.steps.specs.declared.Written.{Written}
 use Rattle.steps.specs.code.Steps.{Measures, Succeeds, Writes}
 use Rattle.steps.proofs.StepLaws.{yields, succeeds, measure-wrapped, write-wrapped}
-use Rattle.forms.specs.declared.ShapePlaces.{ShapePlaces}
-use Rattle.forms.specs.declared.PathPlaces.{PathPlaces}
-use Rattle.forms.specs.declared.TextPlaces.{TextPlaces}
-use Rattle.forms.specs.declared.ReferencePlaces.{ReferencePlaces}
-use Rattle.forms.specs.declared.BoxPlaces.{BoxPlaces}
-use Rattle.forms.specs.declared.BodyPlaces.{BodyPlaces}
-use Rattle.forms.specs.declared.BodyPlaces.the-variants as B
-use Rattle.forms.specs.code.Forms.{shapeAt, pathAt, textAt, referenceAt, boxAt, bodyAt, BodyIn}
+use Rattle.block_places.specs.declared.ShapePlaces.{ShapePlaces}
+use Rattle.block_places.specs.declared.PathPlaces.{PathPlaces}
+use Rattle.block_places.specs.declared.TextPlaces.{TextPlaces}
+use Rattle.block_places.specs.declared.ReferencePlaces.{ReferencePlaces}
+use Rattle.block_places.specs.declared.BoxPlaces.{BoxPlaces}
+use Rattle.block_places.specs.declared.BodyPlaces.{BodyPlaces}
+use Rattle.block_places.specs.declared.BodyPlaces.the-variants as B
+use Rattle.block_places.specs.code.Places.{shapeAt, pathAt, textAt, referenceAt, boxAt, bodyAt, BodyIn}
 use Rattle.polygon_node.specs.code.Shape.{polygonBytes, nodeBytes}
 use Rattle.boxes.specs.code.Box.{boxBytes}
 use Rattle.path.specs.code.Length.{pathBytes}

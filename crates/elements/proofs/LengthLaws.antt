@@ -18,11 +18,11 @@ use Rattle.stream.specs.Records.{emptyRecord}
 use Rattle.cell.specs.Limits.{minPolygonPoints, maxPoints, minNodePoints, maxNodePoints}
 use Rattle.cell.specs.Write.{isSome, writePolygon, writeNode, writeBody, writeProperties}
 use Rattle.records.proofs.RecordLaws.{length-record}
-use Rattle.forms.specs.declared.BodyPlaces.{BodyPlaces}
-use Rattle.forms.specs.declared.BodyPlaces.the-variants as B
-use Rattle.forms.specs.declared.ShapePlaces.{ShapePlaces}
-use Rattle.forms.specs.code.Place.{valuesFrom, placeFrom, propertyAt, propertyEnd, propertiesFrom}
-use Rattle.forms.specs.code.Forms.{shapeAt, pathAt, boxAt, bodyAt, BodyIn}
+use Rattle.block_places.specs.declared.BodyPlaces.{BodyPlaces}
+use Rattle.block_places.specs.declared.BodyPlaces.the-variants as B
+use Rattle.block_places.specs.declared.ShapePlaces.{ShapePlaces}
+use Rattle.block_places.specs.code.Place.{valuesFrom, placeFrom, propertyAt, propertyEnd, propertiesFrom}
+use Rattle.block_places.specs.code.Places.{shapeAt, pathAt, boxAt, bodyAt, BodyIn}
 use Rattle.points.proofs.WalkLaws.{length-from}
 use Rattle.transform.specs.code.Strans.{transformLength}
 use Rattle.transform.proofs.StransLaws.{length-small}

@@ -20,12 +20,12 @@ use Rattle.steps.specs.declared.Measured.{Measured}
 use Rattle.steps.specs.declared.Measured.the-variants as M
 use Rattle.steps.specs.code.Steps.{sizing, Measures}
 use Rattle.steps.proofs.StepLaws.{measure-first-refused, measure-second-refused, measure-both}
-use Rattle.forms.specs.declared.BodyPlaces.{BodyPlaces}
-use Rattle.forms.specs.declared.PropertyPlaces.{PropertyPlaces}
+use Rattle.block_places.specs.declared.BodyPlaces.{BodyPlaces}
+use Rattle.block_places.specs.declared.PropertyPlaces.{PropertyPlaces}
 use Rattle.forms.specs.declared.ElementForm.{ElementForm}
 use Rattle.forms.specs.declared.ElementForm.the-variants as E
-use Rattle.forms.specs.code.Place.{placeFrom, propertyEnd}
-use Rattle.forms.specs.code.Forms.{bodyAt, propertiesAt, ElementIn}
+use Rattle.block_places.specs.code.Place.{placeFrom, propertyEnd}
+use Rattle.block_places.specs.code.Places.{bodyAt, propertiesAt, ElementIn}
 use Rattle.forms.specs.code.Checks.{ElementRead}
 use Rattle.forms.proofs.ElementLaws.{element-as}
 use Rattle.properties.specs.code.Tail.{tailBytes}

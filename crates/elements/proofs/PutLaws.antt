@@ -18,14 +18,14 @@ use Rattle.cell.specs.Write.{writeBody, writeProperties, writeElement}
 use Rattle.steps.specs.declared.Written.{Written}
 use Rattle.steps.specs.code.Steps.{Succeeds, Writes}
 use Rattle.steps.proofs.StepLaws.{succeeds, write-both}
-use Rattle.forms.specs.declared.BodyPlaces.{BodyPlaces}
-use Rattle.forms.specs.declared.PropertyPlaces.{PropertyPlaces}
-use Rattle.forms.specs.declared.ElementForm.{ElementForm}
+use Rattle.block_places.specs.declared.BodyPlaces.{BodyPlaces}
+use Rattle.block_places.specs.declared.PropertyPlaces.{PropertyPlaces}
+use Rattle.block_places.specs.declared.ElementPlaces.{ElementPlaces}
 use Rattle.forms.specs.declared.ElementForm.the-variants as E
-use Rattle.forms.specs.code.Place.{placeFrom, propertyEnd}
-use Rattle.forms.specs.code.Forms.{bodyAt, propertiesAt, BodyIn}
+use Rattle.block_places.specs.code.Place.{placeFrom, propertyEnd}
+use Rattle.block_places.specs.code.Places.{bodyAt, propertiesAt, bodyPlaces, bodyEnd, elementPlaces, BodyIn}
 use Rattle.forms.specs.code.Checks.{ElementRead}
-use Rattle.forms.proofs.ElementLaws.{element-as}
+use Rattle.forms.proofs.HeldLaws.{Held, element-held}
 use Rattle.properties.specs.code.Tail.{tailBytes, tailLength}
 use Rattle.elements.specs.code.Block.{bodyBytes, bodyLength, Fits, WritesBlock}
 use Rattle.elements.proofs.LengthLaws.{body-length, tail-length}
@@ -47,13 +47,23 @@ room-of {b} {s} {t} {n} h i l = subst (λ (x : BodyPlaces). Room b x n) h (recor
 abbrev joined : D.SaidBody → List D.Property → D.Said
 joined a qs = record { body = a; properties = qs }
 
-module _ (policy : GdsRoundingPolicy) (d : Float) (b part : List ℕ) (f : Fits policy d b (length part)) {r : ElementForm} (w : ElementRead b r) where
-  pub never-ill : {X : Type 0} → r ≡ E.Ill → X
-  never-ill h = let g = element-as w h .form in let k = f .accepted .held in let z : _≡_ {A = ℕ} 0 1 = cc in absurd (omega arith)
+module _ (policy : GdsRoundingPolicy) (d : Float) (b part : List ℕ) (f : Fits policy d b (length part)) where
+  held : Held b
+  held = element-held b (f .accepted .element) (f .accepted .held)
 
-  module _ (s : BodyPlaces) (q : PropertyPlaces) (h : r ≡ E.Element s q) where
+  -- the block is as long as its places need
+  pub places-room : bodyEnd b (bodyPlaces b) + 2 ≤ length b
+  places-room = held .room
+
+  module _ (p : ElementPlaces) (h : p ≡ elementPlaces b) where
+    abbrev s : BodyPlaces
+    s = p .body
+
+    abbrev q : PropertyPlaces
+    q = p .properties
+
     read : ElementRead b (E.Element s q)
-    read = element-as w h
+    read = subst (λ (x : ElementPlaces). ElementRead b (E.Element (x .body) (x .properties))) (sym h) (held .read)
 
     abbrev e : Element
     e = record { body = bodyAt b s; properties = propertiesAt b q }

@@ -1,9 +1,9 @@
 // One element: a block of the sheet measured, and written (`write_element_with_field_prefix` of write/mod.rs).
+use block_places::BodyPlaces;
+use block_places::PropertyPlaces;
 use conversion::CoordinateConverter;
 use conversion::Entry;
-use forms::BodyPlaces;
 use forms::ElementForm;
-use forms::PropertyPlaces;
 use refusal::Refusal;
 use steps::Measured;
 use steps::Written;
@@ -15,7 +15,7 @@ ghost use Rattle.sheet.specs.Element.{kindOf, elementOf};
 ghost use Rattle.stream.specs.Records.{elementBytes};
 ghost use Rattle.cell.specs.Limits.{maxSheetLength};
 ghost use Rattle.cell.specs.Write.{writeBody, writeElement};
-ghost use Rattle.forms.specs.code.Forms.{bodyAt, propertiesAt, BodyIn, ElementIn};
+ghost use Rattle.block_places.specs.code.Places.{bodyAt, propertiesAt, BodyIn, ElementIn};
 ghost use Rattle.steps.specs.code.Steps.{maxDeviations, Measures, Succeeds, Writes};
 ghost use Rattle.elements.specs.code.Block.{bodyBytes, bodyLength, measuredBlock, Short, Fits, WritesBlock};
 
@@ -24,12 +24,12 @@ fn kind_of(b: &[u8], body: BodyPlaces) -> u8
     ensures { λ r. ⌜ r ≡ kindOf (bodyAt (now (b .entry)) body) ⌝ }
 {
     match body {
-        BodyPlaces::Polygon { shape: _ } => forms::POLYGON,
-        BodyPlaces::Path { path: _ } => forms::PATH,
-        BodyPlaces::Text { text: _ } => forms::TEXT,
-        BodyPlaces::Node { shape: _ } => forms::NODE,
-        BodyPlaces::Reference { reference: _ } => forms::REFERENCE,
-        BodyPlaces::Box { gds_box: _ } => forms::BOX,
+        BodyPlaces::Polygon { shape: _ } => block_places::POLYGON,
+        BodyPlaces::Path { path: _ } => block_places::PATH,
+        BodyPlaces::Text { text: _ } => block_places::TEXT,
+        BodyPlaces::Node { shape: _ } => block_places::NODE,
+        BodyPlaces::Reference { reference: _ } => block_places::REFERENCE,
+        BodyPlaces::Box { gds_box: _ } => block_places::BOX,
     }
 }
 
@@ -151,18 +151,14 @@ fn put_body(
     }
 }
 
-// The block's element into the part of the output that starts where the last one ended.
+// The block's element into the part of the output that starts where the last one ended. Measuring has checked the form, so its parts are read by their places alone.
 pub fn put_element(converter: CoordinateConverter, b: &[u8], index: u32, part: &mut [u8]) -> Written
     requires { ⌜ Fits (converter .policy) (converter .d) (now b) (length (now part)) ⌝ }
     ensures { λ r. ⌜ WritesBlock (converter .policy) (converter .d) index (now (b .entry)) (now (part .entry)) (now (part .exit)) r ⌝ }
 {
-    let ElementForm::Element { body, properties } = forms::element(b) else {
-        // Never: the block holds an element.
-        return Written {
-            to: 0,
-            entry: Entry::blank(index, 0),
-        };
-    };
+    let element = block_places::element_places(b);
+    let body = element.body;
+    let properties = element.properties;
     let kind = kind_of(b, body);
     let written = put_body(converter, b, body, part, Entry::blank(index, kind));
     properties::put_tail(b, properties, part, written.to, written.entry)

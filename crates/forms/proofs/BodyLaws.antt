@@ -8,9 +8,9 @@ use borrow.Author.Tests.{ne-eqb}
 use Rattle.parsing.specs.Parse.{Part, ill, part, IllFormed, illFormed, pure, follow, map}
 use Rattle.sheet.specs.Form.{Form}
 use Rattle.sheet.specs.Element.{Body, polygonKind, pathKind, textKind, nodeKind, referenceKind, boxKind, bodyForm}
-use Rattle.forms.specs.declared.BodyPlaces.{BodyPlaces}
+use Rattle.block_places.specs.declared.BodyPlaces.{BodyPlaces}
 use Rattle.forms.specs.declared.BodyForm.the-variants as F
-use Rattle.forms.specs.code.Forms.{bodyAt, BodyIn}
+use Rattle.block_places.specs.code.Places.{bodyAt, BodyIn}
 use Rattle.forms.specs.code.Checks.{BodyRead}
 use Rattle.forms.proofs.Step.{on, off}
 

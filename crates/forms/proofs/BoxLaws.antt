@@ -4,15 +4,14 @@ use mathlib.Core.List.{List}
 use Prim.Native.Nat.{ℕ, _≤_, _<_}
 use native.Mathlib.Omega.{arith}
 use lib.ListN.{length, drop, length-drop}
-use Rattle.big_endian.specs.Big.{numberAt}
 use Rattle.parsing.specs.Parse.{ill, part, illFormed}
 use Rattle.sheet.specs.Form.{num, point}
 use Rattle.sheet.specs.Element.{box, boxKind, boxForm, bodyForm}
-use Rattle.forms.specs.declared.BoxPlaces.{BoxPlaces}
-use Rattle.forms.specs.declared.BodyPlaces.the-variants as B
+use Rattle.block_places.specs.declared.BoxPlaces.{BoxPlaces}
+use Rattle.block_places.specs.declared.BodyPlaces.the-variants as B
 use Rattle.forms.specs.declared.BodyForm.the-variants as F
-use Rattle.forms.specs.code.Place.{pointAt}
-use Rattle.forms.specs.code.Forms.{boxAt}
+use Rattle.block_places.specs.code.Place.{pointAt}
+use Rattle.block_places.specs.code.Places.{boxAt, boxPlaces}
 use Rattle.forms.specs.code.Checks.{BodyRead}
 use Rattle.forms.proofs.Step.{on, off, layer-type}
 use Rattle.forms.proofs.Sized.{sized-num, sized-point, Needs, needs-bind, needs-front}
@@ -42,10 +41,10 @@ module _ (b : List ℕ) where
       unfolding boxForm
       box-second e = box-ill (layer-type b _ (omega arith) (on _ _ p (off _ _ e)))
 
-      pub box-is : point (drop 39 b) ≡ part (pointAt b 39) (drop 73 b) → (s : BoxPlaces) → s .layer ≡ numberAt 2 b 1 → s .boxtype ≡ numberAt 2 b 3 → s .first ≡ 5 → s .second ≡ 39
-          → BodyRead boxKind b (F.Body (B.Box s) 73)
-      unfolding bodyForm boxForm boxAt
-      box-is q s p1 p2 p3 p4 =
-          body-is boxForm box boxKind refl b (B.Box s) 73 (layer-type b _ (omega arith) (on _ _ p (on _ _ q refl))) (rw (p1, p2, p3, p4))
+      pub box-is : point (drop 39 b) ≡ part (pointAt b 39) (drop 73 b) → (s : BoxPlaces) → s ≡ boxPlaces b → BodyRead boxKind b (F.Body (B.Box s) 73)
+      unfolding bodyForm boxForm boxAt boxPlaces
+      box-is q s e =
+          rw e
+          (body-is boxForm box boxKind refl b (B.Box (boxPlaces b)) 73 (layer-type b _ (omega arith) (on _ _ p (on _ _ q refl))) refl
           (record { first-in = omega arith; second-in = omega arith })
-          h
+          h)

@@ -16,7 +16,7 @@ use Rattle.units.specs.declared.Unit.{Unit}
 use Rattle.units.specs.declared.Unit.the-variants as U
 use Rattle.parsing.specs.Parse.{Part, ill, part, IllFormed, illFormed, pure, fail, follow, when, present, _>>=_}
 use Rattle.sheet.specs.Form.{integerKind, doubleKind, absentKind, coordinateOf, coordinate, point, spacingOf, spacing}
-use Rattle.forms.specs.code.Place.{doubleAt, unitAt, coordinateAt, pointAt, spacingAt}
+use Rattle.block_places.specs.code.Place.{doubleAt, unitAt, coordinateAt, pointAt, spacingAt}
 use Rattle.forms.specs.code.Checks.{given, Checked}
 use Rattle.forms.proofs.Step.{on, off, moved, num-at, when-is}
 

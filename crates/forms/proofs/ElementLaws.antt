@@ -8,15 +8,15 @@ use Rattle.big_endian.specs.Big.{numberAt}
 use Rattle.parsing.specs.Parse.{Part, ill, part, IllFormed, pure, follow, ended, whole, _>>=_}
 use Rattle.sheet.specs.Form.{counted}
 use Rattle.sheet.specs.Element.{Body, Element, property, bodyForm, elementForm, elementOf}
-use Rattle.forms.specs.declared.BodyPlaces.{BodyPlaces}
-use Rattle.forms.specs.declared.PropertyPlaces.{PropertyPlaces}
+use Rattle.block_places.specs.declared.BodyPlaces.{BodyPlaces}
+use Rattle.block_places.specs.declared.PropertyPlaces.{PropertyPlaces}
 use Rattle.forms.specs.declared.BodyForm.{BodyForm}
 use Rattle.forms.specs.declared.BodyForm.the-variants as F
 use Rattle.forms.specs.declared.PropertiesForm.{PropertiesForm}
 use Rattle.forms.specs.declared.PropertiesForm.the-variants as P
 use Rattle.forms.specs.declared.ElementForm.{ElementForm}
 use Rattle.forms.specs.declared.ElementForm.the-variants as E
-use Rattle.forms.specs.code.Forms.{bodyAt}
+use Rattle.block_places.specs.code.Places.{bodyAt}
 use Rattle.forms.specs.code.Checks.{PropertiesRead, BodyRead, ElementRead}
 use Rattle.forms.proofs.Step.{on, off, num-at}
 use Rattle.forms.proofs.Sized.{sized-num}

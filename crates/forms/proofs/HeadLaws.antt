@@ -10,10 +10,10 @@ use borrow.Author.Tests.{leb-true, leb-false, ltb-true, ltb-false}
 use Rattle.parsing.specs.Parse.{ill, part, illFormed, ended}
 use Rattle.sheet.specs.Form.{num}
 use Rattle.sheet.specs.Element.{Head, headForm, headOf}
-use Rattle.forms.specs.declared.HeadPlaces.{HeadPlaces}
+use Rattle.block_places.specs.declared.HeadPlaces.{HeadPlaces}
 use Rattle.forms.specs.declared.HeadForm.the-variants as H
-use Rattle.forms.specs.code.Place.{wordsFrom, stringAt, stringEnd}
-use Rattle.forms.specs.code.Forms.{headAt}
+use Rattle.block_places.specs.code.Place.{wordsFrom, stringAt, stringEnd}
+use Rattle.block_places.specs.code.Places.{headAt}
 use Rattle.forms.specs.code.Checks.{HeadRead}
 use Rattle.forms.proofs.Step.{on, off, string-at, string-long, ends, ends-not}
 use Rattle.forms.proofs.Sized.{sized-num, sized-times, string-needs}

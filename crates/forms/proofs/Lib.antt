@@ -12,5 +12,4 @@ pub mod ReferenceLaws
 pub mod BoxLaws
 pub mod HeadLaws
 pub mod ElementLaws
-pub mod UnitLaws
-pub mod StringLaws
+pub mod HeldLaws

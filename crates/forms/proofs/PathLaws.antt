@@ -12,11 +12,11 @@ use Rattle.big_endian.specs.Big.{numberAt}
 use Rattle.parsing.specs.Parse.{Part, ill, part, IllFormed, illFormed, follow, times}
 use Rattle.sheet.specs.Form.{Form, num, counted, coordinate, point}
 use Rattle.sheet.specs.Element.{Path, path, pathKind, pathTypeForm, pathForm, bodyForm}
-use Rattle.forms.specs.declared.PathPlaces.{PathPlaces}
-use Rattle.forms.specs.declared.BodyPlaces.the-variants as B
+use Rattle.block_places.specs.declared.PathPlaces.{PathPlaces}
+use Rattle.block_places.specs.declared.BodyPlaces.the-variants as B
 use Rattle.forms.specs.declared.BodyForm.the-variants as F
-use Rattle.forms.specs.code.Place.{coordinateAt, pointsFrom}
-use Rattle.forms.specs.code.Forms.{pathTypeOf, pathAt}
+use Rattle.block_places.specs.code.Place.{coordinateAt, pointsFrom}
+use Rattle.block_places.specs.code.Places.{pathTypeOf, pathAt, pathPlaces}
 use Rattle.forms.specs.code.Checks.{Checked, LengthsChecked, BodyRead}
 use Rattle.forms.proofs.Step.{on, off, num-at, layer-type, when-is, checked, failed}
 use Rattle.forms.proofs.Sized.{Sized, sized-num, sized-bind, sized-cond, sized-when, sized-pure, sized-coordinate, sized-times, sized-point, sized-within}
@@ -91,36 +91,25 @@ module _ (b : List ℕ) where
         unfolding pathForm
         path-lengths e = path-ill (layer-type b _ (omega arith) (on _ _ k (l .is _ ∙ cond-no t _ _ e)))
 
-        module _ (there : not t ≡ false) (n : ℕ) (e : n ≡ numberAt 2 b 57) {r : Bool} (v : Checked (times n point) b 59 (pointsFrom n b 59) (59 + 34 * n) r) where
-          abbrev made : Path
-          made =
-              record {
-                layer = numberAt 2 b 1;
-                datatype = numberAt 2 b 3;
-                pathType = pathTypeOf (numberAt 1 b 5);
-                width = coordinateAt b 6;
-                begin = coordinateAt b 23;
-                end = coordinateAt b 40;
-                points = pointsFrom n b 59;
-              }
-
-          path-by : Checked pathForm b 1 made (59 + 34 * n) r
-          unfolding pathForm
+        module _ (there : not t ≡ false) (s : PathPlaces) (e : s ≡ pathPlaces b) {r : Bool} (v : Checked (times (s .points .count) point) b 59 (pointsFrom (s .points .count) b 59) (59 + 34 * s .points .count) r) where
+          path-by : Checked pathForm b 1 (pathAt b s) (59 + 34 * s .points .count) r
+          unfolding pathForm pathAt pathPlaces
           path-by =
               record {
                 is =
                     layer-type b _ (omega arith) (on _ _ k (l .is _ ∙ cond-yes t _ _ there
-                    ∙ then-is _ _ _ _ r (counted-at point b 57 n h e (v .is))));
+                    ∙ then-is _ _ _ _ r (counted-at point b 57 (s .points .count) h (ap (λ (x : PathPlaces). x .points .count) e) (v .is))))
+                    ∙ rw e;
               }
 
           pub path-points : not r ≡ true → BodyRead pathKind b F.Ill
           path-points f = path-ill (failed path-by f)
 
-          pub path-is : (s : PathPlaces) → not r ≡ false → s .layer ≡ numberAt 2 b 1 → s .datatype ≡ numberAt 2 b 3 → s .pathtype ≡ numberAt 1 b 5
-              → s .width ≡ 6 → s .begin ≡ 23 → s .end ≡ 40 → s .points .count ≡ n → s .points .place ≡ 59 → BodyRead pathKind b (F.Body (B.Path s) (59 + 34 * n))
-          unfolding bodyForm pathAt
-          path-is s f p1 p2 p3 p4 p5 p6 p7 p8 =
-              let within = sized-within (34 * n) (times n point) b 59 (sized-times 34 n point sized-point) h (checked v f) in
-              body-is pathForm path pathKind refl b (B.Path s) (59 + 34 * n) (checked path-by f) (rw (p1, p2, p3, p4, p5, p6, p7, p8))
-              (record { width-in = omega arith; begin-in = omega arith; end-in = omega arith; points-in = omega arith })
+          pub path-is : not r ≡ false → BodyRead pathKind b (F.Body (B.Path s) (59 + 34 * s .points .count))
+          unfolding bodyForm pathPlaces
+          path-is f =
+              let within = sized-within (34 * s .points .count) (times (s .points .count) point) b 59 (sized-times 34 (s .points .count) point sized-point) h (checked v f) in
+              let same = ap (λ (x : PathPlaces). x .points .count) e in
+              body-is pathForm path pathKind refl b (B.Path s) (59 + 34 * s .points .count) (checked path-by f) refl
+              (rw e (record { width-in = omega arith; begin-in = omega arith; end-in = omega arith; points-in = omega arith }))
               within

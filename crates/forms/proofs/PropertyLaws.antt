@@ -9,7 +9,7 @@ use Rattle.parsing.specs.Parse.{Part, ill, part, IllFormed, illFormed, ended, t
 use Rattle.sheet.specs.Form.{Form, num, string, counted}
 use Rattle.sheet.specs.Element.{property}
 use Rattle.forms.specs.declared.PropertiesForm.the-variants as P
-use Rattle.forms.specs.code.Place.{placeFrom, propertyAt, propertyEnd, propertiesFrom}
+use Rattle.block_places.specs.code.Place.{placeFrom, propertyAt, propertyEnd, propertiesFrom}
 use Rattle.forms.specs.code.Checks.{PropertiesRead}
 use Rattle.forms.proofs.Step.{on, off, num-at, string-at, string-long, ends, ends-not}
 use Rattle.forms.proofs.Sized.{sized-num, needs-bind, needs-front, string-needs, counted-needs}

@@ -11,11 +11,11 @@ use Rattle.big_endian.specs.Big.{numberAt}
 use Rattle.parsing.specs.Parse.{ill, part, illFormed, pure, _>>=_}
 use Rattle.sheet.specs.Form.{Form, num, code, flag, double, point, spacing}
 use Rattle.sheet.specs.Element.{Reference, reference, referenceKind, referenceForm, bodyForm}
-use Rattle.forms.specs.declared.ReferencePlaces.{ReferencePlaces}
-use Rattle.forms.specs.declared.BodyPlaces.the-variants as B
+use Rattle.block_places.specs.declared.ReferencePlaces.{ReferencePlaces}
+use Rattle.block_places.specs.declared.BodyPlaces.the-variants as B
 use Rattle.forms.specs.declared.BodyForm.the-variants as F
-use Rattle.forms.specs.code.Place.{doubleAt, pointAt, spacingAt, stringAt, stringEnd}
-use Rattle.forms.specs.code.Forms.{referenceAt, referencePlaces}
+use Rattle.block_places.specs.code.Place.{doubleAt, pointAt, spacingAt, stringAt, stringEnd}
+use Rattle.block_places.specs.code.Places.{referenceAt, referencePlaces}
 use Rattle.forms.specs.code.Checks.{BodyRead}
 use Rattle.forms.proofs.Step.{on, off, moved, num-at, double-at, string-at, string-long, flag-at, flag-ill}
 use Rattle.forms.proofs.Sized.{sized-num, sized-flag, sized-double, sized-point, sized-spacing, Needs, needs-bind, needs-front, string-needs}

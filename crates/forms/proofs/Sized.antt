@@ -54,7 +54,7 @@ sized-present (some a) = sized-pure a
 
 -- ---- the parts of a block
 
-sized-bytes : (k : ℕ) → Sized k (bytes k)
+pub sized-bytes : (k : ℕ) → Sized k (bytes k)
 sized-bytes k = record { short = λ s h. items-short k s h; takes = λ s a r e. go s a r (leb k (length s)) refl (sym (items-is illFormed k s) ∙ e) }
   where
     right : {a b s r : List ℕ} → _≡_ {A = Part IllFormed ℕ (List ℕ)} (part a s) (part b r) → s ≡ r

@@ -14,7 +14,7 @@ use Rattle.big_endian.proofs.PlaceLaws.{move}
 use Rattle.parsing.specs.Parse.{Part, ill, part, Parse, IllFormed, illFormed, pure, follow, when, ended, _>>=_}
 use Rattle.parsing.proofs.ParseLaws.{items-is}
 use Rattle.sheet.specs.Form.{Form, bytes, num, code, flag, double, string}
-use Rattle.forms.specs.code.Place.{doubleAt, stringAt, stringEnd}
+use Rattle.block_places.specs.code.Place.{doubleAt, stringAt, stringEnd}
 use Rattle.forms.specs.code.Checks.{Checked}
 
 -- ---- a step that goes on, a step that does not

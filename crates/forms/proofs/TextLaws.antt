@@ -9,11 +9,11 @@ use Rattle.big_endian.specs.Big.{numberAt}
 use Rattle.parsing.specs.Parse.{ill, part, illFormed, pure, _>>=_}
 use Rattle.sheet.specs.Form.{Form, num, code, flag, double, string, point}
 use Rattle.sheet.specs.Element.{Text, text, textKind, textForm, bodyForm}
-use Rattle.forms.specs.declared.TextPlaces.{TextPlaces}
-use Rattle.forms.specs.declared.BodyPlaces.the-variants as B
+use Rattle.block_places.specs.declared.TextPlaces.{TextPlaces}
+use Rattle.block_places.specs.declared.BodyPlaces.the-variants as B
 use Rattle.forms.specs.declared.BodyForm.the-variants as F
-use Rattle.forms.specs.code.Place.{doubleAt, pointAt, stringEnd}
-use Rattle.forms.specs.code.Forms.{textAt}
+use Rattle.block_places.specs.code.Place.{doubleAt, pointAt, stringEnd}
+use Rattle.block_places.specs.code.Places.{textAt, textPlaces}
 use Rattle.forms.specs.code.Checks.{BodyRead}
 use Rattle.forms.proofs.Step.{on, off, layer-type, double-at, string-at, string-long, flag-at, flag-ill}
 use Rattle.forms.proofs.Sized.{sized-num, sized-code, sized-flag, sized-double, sized-point, Needs, needs-bind, needs-front, string-needs}
@@ -82,11 +82,10 @@ module _ (b : List ℕ) where
             pub text-string : length b < stringEnd b 58 → BodyRead textKind b F.Ill
             text-string l = text-ill (front ∙ on _ _ o (off _ _ (string-long b 58 h l)))
 
-            pub text-is : (s : TextPlaces) (to : ℕ) → stringEnd b 58 ≡ to → to ≤ length b
-                → s .layer ≡ numberAt 2 b 1 → s .texttype ≡ numberAt 2 b 3 → s .vertical ≡ numberAt 1 b 5 → s .horizontal ≡ numberAt 1 b 6 → s .reflection ≡ eqb (numberAt 1 b 7) 1
-                → s .magnification ≡ doubleAt b 8 → s .degrees ≡ doubleAt b 16 → s .origin ≡ 24 → s .string ≡ 58 → BodyRead textKind b (F.Body (B.Text s) to)
-            unfolding bodyForm textAt
-            text-is s to e l p1 p2 p3 p4 p5 p6 p7 p8 p9 =
-                body-is textForm text textKind refl b (B.Text s) to (front ∙ on _ _ o (on _ _ (string-at b 58 to e l) refl)) (rw (p1, p2, p3, p4, p5, p6, p7, p8, p9))
-                (record { origin-in = omega arith; string-in = rw p9 (omega arith) })
-                l
+            pub text-is : (s : TextPlaces) (to : ℕ) → stringEnd b 58 ≡ to → to ≤ length b → s ≡ textPlaces b → BodyRead textKind b (F.Body (B.Text s) to)
+            unfolding bodyForm textAt textPlaces
+            text-is s to e l q =
+                rw q
+                (body-is textForm text textKind refl b (B.Text (textPlaces b)) to (front ∙ on _ _ o (on _ _ (string-at b 58 to e l) refl)) refl
+                (record { origin-in = omega arith; string-in = omega arith })
+                l)

@@ -6,7 +6,7 @@ use native.Mathlib.Omega.{arith}
 use lib.ListN.{length, drop}
 use Rattle.parsing.specs.Parse.{ill, part, illFormed, times}
 use Rattle.sheet.specs.Form.{Form, num}
-use Rattle.forms.specs.code.Place.{valuesFrom, placeFrom, wordsFrom}
+use Rattle.block_places.specs.code.Place.{valuesFrom, placeFrom, wordsFrom}
 use Rattle.forms.proofs.Step.{on, off, num-at}
 
 one-less : (n i : ℕ) → i < n → n - i ≡ suc (n - (i + 1))

@@ -1,221 +1,65 @@
-// The form of a block: whether it is well formed (refusal 5), and where its parts are. Nothing is copied: what comes after reads the parts by place.
-ghost use mathlib.Core.Path.{_≡_};
+// The form of a block: whether it is well formed (refusal 5), and where its parts are.
 ghost use mathlib.Core.Bool.{cond};
 ghost use Prim.Native.Nat.{_+_, _*_, _≤_};
-ghost use lib.Dec.{eqb};
 ghost use lib.ListN.{length};
 ghost use Rattle.big_endian.specs.Big.{numberAt};
 ghost use Rattle.parsing.specs.Parse.{times};
 ghost use Rattle.sheet.specs.Form as Form;
 ghost use Rattle.sheet.specs.Element as Element;
-ghost use Rattle.forms.specs.code.Place.{doubleAt, unitAt, coordinateAt, pointAt, pointsFrom, spacingAt, stringAt, stringEnd, maxWord, pathPointsPlace, afterNameLength, coordinateLength, pointLength};
-ghost use Rattle.forms.specs.code.Forms.{pathTypeOf, referencePlaces};
+ghost use Rattle.block_places.specs.code.Place.{unitAt, coordinateAt, pointAt, pointsFrom, spacingAt, maxWord, pathPointsPlace, coordinateLength, pointLength};
+ghost use Rattle.block_places.specs.code.Places.{pathTypeOf};
 ghost use Rattle.forms.specs.code.Checks.{given, Checked, LengthsChecked, PropertiesRead, BodyRead, HeadRead, ElementRead};
+use block_places::ABSENT;
+use block_places::AFTER_NAME;
+use block_places::BEGIN;
+use block_places::BOX;
+use block_places::BOX_END;
+use block_places::BodyPlaces;
+use block_places::COLUMN_SPACING;
+use block_places::COORDINATE;
+use block_places::END;
+use block_places::FIRST_CORNER;
+use block_places::HEAD_NAME;
+use block_places::HORIZONTAL;
+use block_places::HeadPlaces;
+use block_places::INTEGER;
+use block_places::INTEGERS;
+use block_places::NAME;
+use block_places::NAME_BYTES;
+use block_places::NO_PATH_TYPE;
+use block_places::NODE;
+use block_places::NUMBER;
+use block_places::ORIGIN;
+use block_places::PATH;
+use block_places::PATH_POINTS;
+use block_places::PATH_TYPE;
+use block_places::POINT;
+use block_places::POLYGON;
+use block_places::PropertyPlaces;
+use block_places::REFERENCE;
+use block_places::REFLECTED;
+use block_places::REFLECTION;
+use block_places::ROW_SPACING;
+use block_places::SECOND_CORNER;
+use block_places::SHAPE_POINTS;
+use block_places::STAMPS;
+use block_places::STRING;
+use block_places::STRING_BYTES;
+use block_places::TEXT;
+use block_places::TEXT_ORIGIN;
+use block_places::TEXT_REFLECTION;
+use block_places::UNIT;
+use block_places::VALUE;
+use block_places::VERTICAL;
+use block_places::WIDTH;
 
-// The kind byte of a coordinate.
-pub const INTEGER: u8 = 0;
-
+// The kind byte of a coordinate that is a double.
 const DOUBLE: u8 = 1;
 
-const ABSENT: u8 = 2;
-
-// After a coordinate's kind: its 8 value bytes and its unit.
-const VALUE: usize = 1;
-
-pub const UNIT: usize = 9;
-
-// "four zeros, then a signed 32-bit value": an integer's value bytes are below this.
-const INTEGERS: u64 = 0x1_0000_0000;
-
-// The bytes of a coordinate, and of a point, which is two.
-pub const COORDINATE: usize = 17;
-
-pub const POINT: usize = 34;
-
-// The bytes of a string's length, of a property's attribute and of a count.
-pub const NUMBER: usize = 2;
-
-// The kind byte of an element, which is the kind in its report entry too.
-pub const POLYGON: u8 = 1;
-
-pub const PATH: u8 = 2;
-
-pub const TEXT: u8 = 3;
-
-pub const NODE: u8 = 4;
-
-pub const REFERENCE: u8 = 5;
-
-pub const BOX: u8 = 6;
-
-// The codes: "path type byte (0, 1, 2; 255 absent)", "vertical (0–2), horizontal (0–2), reflection (0 or 1)".
+// The greatest codes: "path type byte (0, 1, 2; 255 absent)", "vertical (0–2), horizontal (0–2)".
 const MAX_PATH_TYPE: u8 = 2;
 
-pub const NO_PATH_TYPE: u8 = 255;
-
 const MAX_PRESENTATION: u8 = 2;
-
-const REFLECTED: u8 = 1;
-
-// Where the parts stand in the block of an element: each where the one before it ends, the first after the kind byte.
-// Polygon, node, path, text and box.
-const LAYER: usize = 1;
-
-const TYPE: usize = 3;
-
-// Polygon and node.
-const SHAPE_COUNT: usize = 5;
-
-const SHAPE_POINTS: usize = 7;
-
-// Path.
-const PATH_TYPE: usize = 5;
-
-const WIDTH: usize = 6;
-
-const BEGIN: usize = 23;
-
-const END: usize = 40;
-
-const PATH_COUNT: usize = 57;
-
-const PATH_POINTS: usize = 59;
-
-// Text.
-const VERTICAL: usize = 5;
-
-const HORIZONTAL: usize = 6;
-
-const TEXT_REFLECTION: usize = 7;
-
-const TEXT_MAGNIFICATION: usize = 8;
-
-const TEXT_DEGREES: usize = 16;
-
-const TEXT_ORIGIN: usize = 24;
-
-const STRING: usize = 58;
-
-const STRING_BYTES: usize = 60;
-
-// Reference: its name, and from where that ends, at the columns, the rest, AFTER_NAME bytes in all.
-const NAME: usize = 1;
-
-const NAME_BYTES: usize = 3;
-
-const ROWS: usize = 4;
-
-const REFLECTION: usize = 8;
-
-const MAGNIFICATION: usize = 9;
-
-const DEGREES: usize = 17;
-
-const SINE: usize = 25;
-
-const COSINE: usize = 33;
-
-const ORIGIN: usize = 41;
-
-const COLUMN_SPACING: usize = 75;
-
-const ROW_SPACING: usize = 109;
-
-const AFTER_NAME: usize = 143;
-
-// Box: its two corners, and where it ends.
-const FIRST_CORNER: usize = 5;
-
-const SECOND_CORNER: usize = 39;
-
-const BOX_END: usize = 73;
-
-// The head's name, and the bytes of its twelve stamp numbers.
-const HEAD_NAME: usize = 0;
-
-pub const STAMPS: usize = 24;
-
-// The head: the places of its name and of its twelve stamp numbers.
-pub struct HeadPlaces {
-    pub name: usize,
-    pub stamps: usize,
-}
-
-// How many points there are in a row, and the place of the first.
-pub struct PointsPlaces {
-    pub count: usize,
-    pub place: usize,
-}
-
-// A polygon or a node: its numbers and its points.
-pub struct ShapePlaces {
-    pub layer: u16,
-    pub datatype: u16,
-    pub points: PointsPlaces,
-}
-
-// A path: its numbers, the places of its three lengths, and its points.
-pub struct PathPlaces {
-    pub layer: u16,
-    pub datatype: u16,
-    pub pathtype: u8,
-    pub width: usize,
-    pub begin: usize,
-    pub end: usize,
-    pub points: PointsPlaces,
-}
-
-// A text: its numbers, and the places of its origin and its string.
-pub struct TextPlaces {
-    pub layer: u16,
-    pub texttype: u16,
-    pub vertical: u8,
-    pub horizontal: u8,
-    pub reflection: bool,
-    pub magnification: f64,
-    pub degrees: f64,
-    pub origin: usize,
-    pub string: usize,
-}
-
-// A reference: its numbers, and the places of its name, its origin and its column and row spacing.
-pub struct ReferencePlaces {
-    pub name: usize,
-    pub columns: u32,
-    pub rows: u32,
-    pub reflection: bool,
-    pub magnification: f64,
-    pub degrees: f64,
-    pub sine: f64,
-    pub cosine: f64,
-    pub origin: usize,
-    pub column: usize,
-    pub row: usize,
-}
-
-// A box: its numbers, and the places of its two corners.
-pub struct BoxPlaces {
-    pub layer: u16,
-    pub boxtype: u16,
-    pub first: usize,
-    pub second: usize,
-}
-
-// The body of an element by its kind.
-pub enum BodyPlaces {
-    Polygon { shape: ShapePlaces },
-    Path { path: PathPlaces },
-    Text { text: TextPlaces },
-    Node { shape: ShapePlaces },
-    Reference { reference: ReferencePlaces },
-    Box { gds_box: BoxPlaces },
-}
-
-// How many properties an element has, and the place of the first.
-pub struct PropertyPlaces {
-    pub count: usize,
-    pub place: usize,
-}
 
 // What the checks of a block answer: the places, or that it is ill-formed.
 pub enum HeadForm {
@@ -241,56 +85,6 @@ enum BodyForm {
 enum PropertiesForm {
     Ill,
     Properties { places: PropertyPlaces },
-}
-
-// ---- values by place
-
-pub fn double(b: &[u8], at: usize) -> f64
-    requires { ⌜ at + 8 ≤ length (now b) ⌝ }
-    ensures { λ r. ⌜ r ≡ doubleAt (now (b .entry)) at ⌝ }
-{
-    binary64::from_bits(big_endian::u64_at(b, at))
-}
-
-// The coordinate at a place, where it is not absent. Its value bytes are read at once, whatever its kind; an integer is the lower four of them.
-pub fn unit_at(b: &[u8], at: usize) -> units::Unit
-    requires { ⌜ at + coordinateLength ≤ length (now b) ⌝ }
-    ensures { λ r. ⌜ r ≡ unitAt (now (b .entry)) at ⌝ }
-{
-    let raw = big_endian::u64_at(b, at + VALUE);
-    let units = double(b, at + UNIT);
-    if big_endian::u8_at(b, at) == INTEGER {
-        let value = big_endian::as_i32((raw % INTEGERS) as u32);
-        return units::Unit::Integer { value, units };
-    }
-    let value = binary64::from_bits(raw);
-    units::Unit::Float { value, units }
-}
-
-// Whether the coordinate at a place is absent, or the spacing.
-pub fn is_absent(b: &[u8], at: usize) -> bool
-    requires { ⌜ at + 1 ≤ length (now b) ⌝ }
-    ensures { λ r. ⌜ r ≡ eqb (numberAt 1 (now (b .entry)) at) Form.absentKind ⌝ }
-{
-    big_endian::u8_at(b, at) == ABSENT
-}
-
-// Where the string at a place ends, by its length, which is what 2 bytes hold.
-pub fn string_end(b: &[u8], at: usize) -> usize
-    requires { ⌜ at + 2 ≤ length (now b) ⌝ }
-    ensures { λ r. ⌜ (r ≡ stringEnd (now (b .entry)) at) × (r ≤ at + (2 + maxWord)) ⌝ }
-{
-    at + NUMBER + big_endian::u16_at(b, at) as usize
-}
-
-// The bytes of the string at a place.
-pub fn string_at(b: &[u8], at: usize) -> &[u8]
-    requires { ⌜ stringEnd (now b) at ≤ length (now b) ⌝ }
-    ensures { λ r. ⌜ now r ≡ stringAt (now (b .entry)) at ⌝ }
-{
-    let start = at + NUMBER;
-    let end = string_end(b, at);
-    &b[start..end]
 }
 
 // ---- parts of a block
@@ -326,7 +120,7 @@ fn given(b: &[u8], at: usize) -> bool
     requires { ⌜ at + coordinateLength ≤ length (now b) ⌝ }
     ensures { λ r. ⌜ Checked given (now (b .entry)) at (unitAt (now (b .entry)) at) (at + coordinateLength) r ⌝ }
 {
-    if is_absent(b, at) {
+    if block_places::is_absent(b, at) {
         return false;
     }
     coordinate(b, at)
@@ -354,10 +148,10 @@ fn spacing(b: &[u8], at: usize) -> bool
     if !coordinate(b, at + COORDINATE) {
         return false;
     }
-    if is_absent(b, at) {
-        return is_absent(b, at + COORDINATE);
+    if block_places::is_absent(b, at) {
+        return block_places::is_absent(b, at + COORDINATE);
     }
-    !is_absent(b, at + COORDINATE)
+    !block_places::is_absent(b, at + COORDINATE)
 }
 
 // n points in a row; n is what 2 bytes hold.
@@ -397,7 +191,7 @@ fn properties(b: &[u8], at: usize) -> PropertiesForm
         if b.len() < value + NUMBER {
             return PropertiesForm::Ill;
         }
-        end = string_end(b, value);
+        end = block_places::string_end(b, value);
         if b.len() < end {
             return PropertiesForm::Ill;
         }
@@ -420,19 +214,11 @@ fn shape(b: &[u8], node: bool) -> BodyForm
     if b.len() < SHAPE_POINTS {
         return BodyForm::Ill;
     }
-    let count = big_endian::u16_at(b, SHAPE_COUNT) as usize;
+    let shape = block_places::shape_places(b);
+    let count = shape.points.count;
     if !points(b, SHAPE_POINTS, count) {
         return BodyForm::Ill;
     }
-    let places = PointsPlaces {
-        count,
-        place: SHAPE_POINTS,
-    };
-    let shape = ShapePlaces {
-        layer: big_endian::u16_at(b, LAYER),
-        datatype: big_endian::u16_at(b, TYPE),
-        points: places,
-    };
     let end = SHAPE_POINTS + POINT * count;
     if node {
         return BodyForm::Body {
@@ -484,23 +270,11 @@ fn path(b: &[u8]) -> BodyForm
     if !lengths(b) {
         return BodyForm::Ill;
     }
-    let count = big_endian::u16_at(b, PATH_COUNT) as usize;
+    let path = block_places::path_places(b);
+    let count = path.points.count;
     if !points(b, PATH_POINTS, count) {
         return BodyForm::Ill;
     }
-    let places = PointsPlaces {
-        count,
-        place: PATH_POINTS,
-    };
-    let path = PathPlaces {
-        layer: big_endian::u16_at(b, LAYER),
-        datatype: big_endian::u16_at(b, TYPE),
-        pathtype: big_endian::u8_at(b, PATH_TYPE),
-        width: WIDTH,
-        begin: BEGIN,
-        end: END,
-        points: places,
-    };
     let end = PATH_POINTS + POINT * count;
     BodyForm::Body {
         places: BodyPlaces::Path { path },
@@ -526,47 +300,14 @@ fn text(b: &[u8]) -> BodyForm
     if !point(b, TEXT_ORIGIN) {
         return BodyForm::Ill;
     }
-    let end = string_end(b, STRING);
+    let end = block_places::string_end(b, STRING);
     if b.len() < end {
         return BodyForm::Ill;
     }
-    let text = TextPlaces {
-        layer: big_endian::u16_at(b, LAYER),
-        texttype: big_endian::u16_at(b, TYPE),
-        vertical: big_endian::u8_at(b, VERTICAL),
-        horizontal: big_endian::u8_at(b, HORIZONTAL),
-        reflection: big_endian::u8_at(b, TEXT_REFLECTION) == REFLECTED,
-        magnification: double(b, TEXT_MAGNIFICATION),
-        degrees: double(b, TEXT_DEGREES),
-        origin: TEXT_ORIGIN,
-        string: STRING,
-    };
+    let text = block_places::text_places(b);
     BodyForm::Body {
         places: BodyPlaces::Text { text },
         end,
-    }
-}
-
-// The numbers and the places of a reference whose name ends at `base`.
-fn reference_places(b: &[u8], base: usize) -> ReferencePlaces
-    requires { ⌜ base + afterNameLength ≤ length (now b) ⌝ }
-    ensures { λ r. ⌜ r ≡ referencePlaces (now (b .entry)) base ⌝ }
-{
-    let origin = base + ORIGIN;
-    let column = base + COLUMN_SPACING;
-    let row = base + ROW_SPACING;
-    ReferencePlaces {
-        name: NAME,
-        columns: big_endian::u32_at(b, base),
-        rows: big_endian::u32_at(b, base + ROWS),
-        reflection: big_endian::u8_at(b, base + REFLECTION) == REFLECTED,
-        magnification: double(b, base + MAGNIFICATION),
-        degrees: double(b, base + DEGREES),
-        sine: double(b, base + SINE),
-        cosine: double(b, base + COSINE),
-        origin,
-        column,
-        row,
     }
 }
 
@@ -576,7 +317,7 @@ fn reference(b: &[u8]) -> BodyForm
     if b.len() < NAME_BYTES {
         return BodyForm::Ill;
     }
-    let base = string_end(b, NAME);
+    let base = block_places::string_end(b, NAME);
     let end = base + AFTER_NAME;
     if b.len() < end {
         return BodyForm::Ill;
@@ -593,7 +334,7 @@ fn reference(b: &[u8]) -> BodyForm
     if !spacing(b, base + ROW_SPACING) {
         return BodyForm::Ill;
     }
-    let reference = reference_places(b, base);
+    let reference = block_places::reference_places(b, base);
     BodyForm::Body {
         places: BodyPlaces::Reference { reference },
         end,
@@ -613,12 +354,7 @@ fn gds_box(b: &[u8]) -> BodyForm
     if !point(b, SECOND_CORNER) {
         return BodyForm::Ill;
     }
-    let gds_box = BoxPlaces {
-        layer: big_endian::u16_at(b, LAYER),
-        boxtype: big_endian::u16_at(b, TYPE),
-        first: FIRST_CORNER,
-        second: SECOND_CORNER,
-    };
+    let gds_box = block_places::box_places(b);
     BodyForm::Body {
         places: BodyPlaces::Box { gds_box },
         end: BOX_END,
@@ -659,7 +395,7 @@ pub fn head_of(b: &[u8]) -> HeadForm
     if b.len() < NUMBER {
         return HeadForm::Ill;
     }
-    let stamps = string_end(b, HEAD_NAME);
+    let stamps = block_places::string_end(b, HEAD_NAME);
     if b.len() != stamps + STAMPS {
         return HeadForm::Ill;
     }

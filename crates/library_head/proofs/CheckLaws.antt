@@ -19,7 +19,7 @@ use Rattle.stream.specs.Library.{HEADER, LIBNAME, version, beginRecord, unitsRe
 use Rattle.cell.specs.Stamps.{stampsFit}
 use Rattle.library.specs.Library.{maxLibraryNameLength, fileHeadOf}
 use Rattle.records.proofs.RecordLaws.{length-first, length-padded}
-use Rattle.forms.specs.code.Place.{wordsFrom, stringAt, doubleAt}
+use Rattle.block_places.specs.code.Place.{wordsFrom, stringAt, doubleAt}
 use Rattle.walk.proofs.HeadLaws.{length-words, words-bytes}
 use Rattle.library_head.specs.declared.HeadForm.{HeadForm}
 use Rattle.library_head.specs.declared.HeadForm.the-variants as F

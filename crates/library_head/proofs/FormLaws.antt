@@ -10,7 +10,7 @@ use borrow.Author.Tests.{leb-true, leb-false, ltb-true, ltb-false}
 use Rattle.parsing.specs.Parse.{ill, part, illFormed, ended, pure, times, _>>=_}
 use Rattle.sheet.specs.Form.{num, double}
 use Rattle.sheet.specs.Library.{LibraryHead, libraryHeadForm, libraryHeadOf}
-use Rattle.forms.specs.code.Place.{stringAt, stringEnd}
+use Rattle.block_places.specs.code.Place.{stringAt, stringEnd}
 use Rattle.forms.proofs.Step.{on, off, string-at, string-long, double-at, ends, ends-not}
 use Rattle.forms.proofs.Sized.{Sized, sized-bind, sized-double, sized-num, sized-pure, sized-times, string-needs}
 use Rattle.forms.proofs.Walk.{words-at}

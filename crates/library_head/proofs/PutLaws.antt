@@ -11,7 +11,7 @@ use Rattle.stream.specs.Strings.{padded}
 use Rattle.stream.specs.Library.{HEADER, BGNLIB, LIBNAME, version, unitsRecord, fileHeadRecords, fileHeadBytes}
 use Rattle.records.specs.code.Bytes.{sized, stamped, Recorded}
 use Rattle.records.proofs.RecordLaws.{then-rest, alone}
-use Rattle.forms.specs.code.Place.{stringAt}
+use Rattle.block_places.specs.code.Place.{stringAt}
 use Rattle.walk.proofs.StampsLaws.{stamps-back}
 use Rattle.library_head.specs.declared.HeadParts.{HeadParts}
 use Rattle.library_head.specs.code.Head.{fileHeadAt}

@@ -53,11 +53,11 @@ pub enum HeadChecked {
 fn head_form(b: &[u8]) -> HeadForm
     ensures { λ r. ⌜ FormRead (now (b .entry)) r ⌝ }
 {
-    if b.len() < forms::NUMBER {
+    if b.len() < block_places::NUMBER {
         return HeadForm::Ill;
     }
-    let unit = forms::string_end(b, NAME);
-    if b.len() != unit + DOUBLE + forms::STAMPS {
+    let unit = block_places::string_end(b, NAME);
+    if b.len() != unit + DOUBLE + block_places::STAMPS {
         return HeadForm::Ill;
     }
     HeadForm::Head { unit }
@@ -93,12 +93,12 @@ fn check_parts(b: &[u8], unit: usize, d: f64) -> HeadChecked
             refusal: Refusal::Stamp,
         };
     }
-    match encode_units(forms::double(b, unit), d) {
+    match encode_units(block_places::double(b, unit), d) {
         Units::Refused => HeadChecked::Refused {
             refusal: Refusal::LibraryUnits,
         },
         Units::Encoded { user, database } => {
-            let n = forms::string_at(b, NAME).len();
+            let n = block_places::string_at(b, NAME).len();
             if n > MAX_NAME_LENGTH {
                 return HeadChecked::Refused {
                     refusal: Refusal::LibraryName,
@@ -136,8 +136,13 @@ pub fn put_head(b: &[u8], parts: HeadParts, out: &mut [u8]) -> usize
 {
     let version = records::put_word_at(out, 0, records::HEADER, records::TWO_BYTE, VERSION);
     let from = parts.stamps;
-    let stamps = &b[from..from + forms::STAMPS];
+    let stamps = &b[from..from + block_places::STAMPS];
     let begin = records::put_stamps_at(out, version, records::BGNLIB, stamps);
-    let name = records::put_string_at(out, begin, records::LIBNAME, forms::string_at(b, NAME));
+    let name = records::put_string_at(
+        out,
+        begin,
+        records::LIBNAME,
+        block_places::string_at(b, NAME),
+    );
     records::put_units_at(out, name, parts.user, parts.database)
 }

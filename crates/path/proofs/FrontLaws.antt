@@ -35,7 +35,7 @@ use Rattle.cell.specs.Limits.{minPathPoints, maxPoints}
 use Rattle.cell.specs.Write.{isSome, writePath}
 use Rattle.validation.specs.code.Check.{shapeChecks}
 use Rattle.validation.proofs.CheckLaws.{behind, behind-refused, behind-passed, behind-yields, passed-within}
-use Rattle.forms.specs.code.Place.{unitAt, coordinateAt}
+use Rattle.block_places.specs.code.Place.{unitAt, coordinateAt}
 use Rattle.coordinate.specs.declared.Valued.{Valued}
 use Rattle.coordinate.specs.declared.Valued.the-variants as G
 use Rattle.coordinate.specs.code.Coordinate.{ValueGrown, GivesValue}

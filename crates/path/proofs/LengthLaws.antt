@@ -17,7 +17,7 @@ use Rattle.big_endian.proofs.BufferLaws.{nothing-at}
 use Rattle.records.specs.code.Bytes.{headBytes, Placed, optBytes, optionOf}
 use Rattle.records.proofs.RecordLaws.{placed, then-placed, length-record, then-rest, then-opt}
 use Rattle.cell.specs.Write.{isSome}
-use Rattle.forms.specs.code.Forms.{pathTypeOf}
+use Rattle.block_places.specs.code.Places.{pathTypeOf}
 use Rattle.points.proofs.WalkLaws.{length-bytes}
 use Rattle.path.specs.declared.Extent.{Extent}
 use Rattle.path.specs.code.Front.{OptExtent, optExtent, Fits}

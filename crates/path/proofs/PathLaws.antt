@@ -31,8 +31,8 @@ use Rattle.steps.specs.code.Steps.{sizing, Measures, Writes}
 use Rattle.steps.proofs.StepLaws.{run-through, stopped, written, putting, writes, outcome-of}
 use Rattle.cell.specs.Limits.{minPathPoints, maxPoints}
 use Rattle.cell.specs.Write.{isSome, writePath}
-use Rattle.forms.specs.declared.PathPlaces.{PathPlaces}
-use Rattle.forms.specs.code.Forms.{pathTypeOf, pathAt}
+use Rattle.block_places.specs.declared.PathPlaces.{PathPlaces}
+use Rattle.block_places.specs.code.Places.{pathTypeOf, pathAt}
 use Rattle.points.specs.declared.Walked.{Walked}
 use Rattle.points.specs.declared.Walked.the-variants as W
 use Rattle.points.specs.code.Walk.{walked, withLength}

@@ -11,14 +11,14 @@ ghost use Rattle.cell.specs.Limits.{maxPoints};
 ghost use Rattle.cell.specs.Write.{isSome, writePath};
 ghost use Rattle.records.specs.code.Bytes.{Placed};
 ghost use Rattle.steps.specs.code.Steps.{maxDeviations, Measures, Succeeds, Writes};
-ghost use Rattle.forms.specs.code.Place.{coordinateAt, coordinateLength};
-ghost use Rattle.forms.specs.code.Forms.{pathTypeOf, pathAt, PathIn};
+ghost use Rattle.block_places.specs.code.Place.{coordinateAt, coordinateLength};
+ghost use Rattle.block_places.specs.code.Places.{pathTypeOf, pathAt, PathIn};
 ghost use Rattle.path.specs.code.Front.{optExtent, writeExtent, writeFront, GivesLength, GivesExtent};
 ghost use Rattle.path.specs.code.Length.{pathBytes, extentRecords, pathHead, extentLength, headLength, HeadSize, pathLength};
+use block_places::PathPlaces;
 use conversion::CoordinateConverter;
 use conversion::Entry;
 use coordinate::Valued;
-use forms::PathPlaces;
 use refusal::Refusal;
 use steps::Measured;
 use steps::Written;
@@ -72,7 +72,7 @@ fn convert_length(
     requires { ⌜ Spare 1 entry ⌝ }
     ensures { λ r. ⌜ GivesLength (isSome (coordinateAt (now (b .entry)) at)) entry (writeLength (converter .policy) (converter .d) field (coordinateAt (now (b .entry)) at)) r ⌝ }
 {
-    if forms::is_absent(b, at) {
+    if block_places::is_absent(b, at) {
         return Length::At {
             there: false,
             value: 0,
@@ -168,7 +168,7 @@ fn convert_front(
 fn has_path_type(pathtype: u8) -> bool
     ensures { λ r. ⌜ r ≡ isSome (pathTypeOf pathtype) ⌝ }
 {
-    pathtype != forms::NO_PATH_TYPE
+    pathtype != block_places::NO_PATH_TYPE
 }
 
 // ---- measured

@@ -2,36 +2,39 @@
 use mathlib.Core.Path.{_≡_, refl, sym, ap, ap₂, _∙_, subst}
 use mathlib.Core.Bool.{true, false}
 use mathlib.Core.Option.{some}
-use mathlib.Core.List.{List, [], _++_}
-use Prim.Native.Nat.{ℕ, zero, suc, _+_, _-_, _*_, _≤_, _<_}
+use mathlib.Core.List.{List, [], _∷_, _++_, append-nil}
+use Prim.Native.Nat.{ℕ, zero, suc, _+_, _-_, _*_, _≤_}
+use native.Mathlib.Nat.{zero-add, suc-add}
+use native.Mathlib.Numerals.{add-one}
 use native.Mathlib.Omega.{arith}
-use lib.ListN.{length}
 use lib.Dec.{T}
+use lib.ListN.{length}
 use lib.IntN.{ℤ}
 use lib.Ieee.{Float, binary64, fits, eq, ne, toBits, ofBits}
 use lib.Ieee.Bits.{ofBits-toBits}
 use borrow.Author.Tests.{not-false}
+use Rattle.refusal.specs.declared.Refusal.{Refusal}
 use Rattle.units.specs.declared.Unit.{Unit}
 use Rattle.units.specs.Point.{Point}
 use Rattle.units.specs.Physical.{passed}
-use Rattle.big_endian.specs.Big.{numberAt}
-use Rattle.big_endian.specs.Buffer.{splice, WroteAt}
-use Rattle.big_endian.proofs.BufferLaws.{at-turn, at-end}
+use Rattle.big_endian.specs.Buffer.{WroteAt}
+use Rattle.big_endian.proofs.BufferLaws.{nothing-at, then-at, same-bytes}
+use Rattle.big_endian.proofs.BytesLaws.{joined-append}
 use Rattle.conversion.specs.declared.Entry.{Entry}
 use Rattle.conversion.specs.declared.GdsRoundingPolicy.{GdsRoundingPolicy}
 use Rattle.conversion.specs.Convert.{Spot, convertBy, convertUnit}
 use Rattle.conversion.specs.Made.{Made, pure, _>>=_}
-use Rattle.conversion.specs.code.Fold.{notedAll, run}
+use Rattle.conversion.specs.code.Fold.{run}
 use Rattle.conversion.specs.Points.{writePoint, writePoints}
-use Rattle.stream.specs.Records.{longBytes, pointsBytes}
-use Rattle.steps.specs.code.Steps.{Writes}
+use Rattle.conversion.proofs.FoldLaws.{run-pure}
+use Rattle.stream.specs.Records.{longBytes, pointBytes, pointsBytes}
 use Rattle.cell.specs.Write.{lastOf}
-use Rattle.sheet.specs.Form.{integerKind}
-use Rattle.forms.specs.code.Place.{valuesFrom, doubleAt, unitAt, pointAt, pointsFrom}
-use Rattle.forms.proofs.UnitLaws.{unit-integer}
+use Rattle.block_places.specs.code.Place.{valuesFrom, doubleAt, unitAt, pointAt, pointsFrom}
+use Rattle.block_places.proofs.UnitLaws.{unit-integer}
+use Rattle.coordinate.proofs.TurnLaws.{turn, others}
 use Rattle.points.specs.declared.Walked.the-variants as W
 use Rattle.points.specs.code.Walk.{through, walked}
-use Rattle.points.specs.code.Integers.{integerAt, integersAt, integersFrom, Passes, AllPass}
+use Rattle.points.specs.code.Integers.{integerAt, integersAt, integersFrom, InUnit, Passes, AllPass}
 
 -- ---- a coordinate, by the bits of its unit
 
@@ -41,60 +44,86 @@ unfolding ne
 same-equal d h = not-false (eq d d) h
 
 module _ (d : Float) (F : T (fits binary64 d)) (N : ne d d ≡ false) (b : List ℕ) where
-  pub bits-pass : (at : ℕ) → numberAt 1 b at ≡ integerKind → numberAt 8 b (at + 9) ≡ toBits binary64 d → Passes d b at
+  pub bits-pass : (at : ℕ) → InUnit (toBits binary64 d) b at → Passes d b at
   unfolding passed
-  bits-pass at k h =
-      let u : d ≡ doubleAt b (at + 9) = sym (ap (ofBits binary64) h ∙ ofBits-toBits binary64 d F) in
-      ap (passed d) (sym (unit-integer b at {u = d} u k refl)) ∙ rw (same-equal d N)
+  bits-pass at i =
+      let u : d ≡ doubleAt b (at + 9) = sym (ap (ofBits binary64) (i .1) ∙ ofBits-toBits binary64 d F) in
+      ap (passed d) (sym (unit-integer b at {u = d} u (i .0) refl)) ∙ rw (same-equal d N)
 
--- ---- all points, from the first on
+-- ---- one point more that passes
 
-module _ (d : Float) (b : List ℕ) (n : ℕ) where
-  pub all-start : (at : ℕ) → AllPass d b (n - 0) at → AllPass d b n at
-  all-start at h = subst (λ (j : ℕ). AllPass d b j at) (go n) h
+module _ (b : List ℕ) where
+  pub all-more : (d : Float) (i from at : ℕ) → at ≡ from + 34 * i → AllPass d b i from → Passes d b at → Passes d b (at + 17) → AllPass d b (suc i) from
+  all-more d zero from at e h x y =
+      let f : at ≡ from = omega arith in
+      (subst (Passes d b) f x, subst (λ (k : ℕ). Passes d b (k + 17)) f y, tt)
+  all-more d (suc i) from at e h x y = (h .0, h .1, all-more d i (from + 34) at (omega arith) (h .2) x y)
+
+  integers-more : (i from at : ℕ) → at ≡ from + 34 * i → integersFrom (suc i) b from ≡ integersFrom i b from ++ (integersAt b at ∷ [])
+  unfolding valuesFrom
+  integers-more zero from at e = ap (λ (k : ℕ). integersAt b k ∷ []) same
     where
-      go : (n : ℕ) → n - 0 ≡ n
-      go n = omega arith
+      same : from ≡ at
+      same = omega arith
+  integers-more (suc i) from at e = ap (λ (ps : List (Point ℤ)). integersAt b from ∷ ps) (integers-more i (from + 34) at (omega arith))
 
-  pub all-turn : (i at : ℕ) → i < n → Passes d b at → Passes d b (at + 17) → AllPass d b (n - (i + 1)) (at + 34) → AllPass d b (n - i) at
-  all-turn i at l x y h = subst (λ (j : ℕ). AllPass d b j at) (go n i l) (x, y, h)
-    where
-      go : (n i : ℕ) → i < n → suc (n - (i + 1)) ≡ n - i
-      go n i h = omega arith
+  -- none yet
+  pub none-put : (from : ℕ) (out : List ℕ) (start to : ℕ) → start ≡ to → start ≤ length out → WroteAt (pointsBytes (integersFrom 0 b from)) out out start to
+  unfolding valuesFrom
+  none-put from out start to e l = subst (WroteAt [] out out start) e (nothing-at out start l)
 
-  pub all-end : (i at : ℕ) → n ≤ i → AllPass d b (n - i) at
-  all-end i at l = subst (λ (j : ℕ). AllPass d b j at) (go n i l) tt
+  -- after i points, in the words of code
+  pub pass-more : (d : Float) (i from at : ℕ) → at ≡ from + 34 * i → AllPass d b i from → Passes d b at → Passes d b (at + 17) → AllPass d b (i + 1) from
+  pass-more d i from at e h x y = subst (λ (k : ℕ). AllPass d b k from) (sym (add-one i)) (all-more d i from at e h x y)
+
+  pub put-more : (i from at : ℕ) → at ≡ from + 34 * i → {start to r : ℕ} {before cur after : List ℕ} → WroteAt (pointsBytes (integersFrom i b from)) before cur start to
+      → WroteAt (longBytes (integerAt b at) ++ longBytes (integerAt b (at + 17))) cur after to r → WroteAt (pointsBytes (integersFrom (i + 1) b from)) before after start r
+  put-more i from at e u v = same-bytes (sym whole) (then-at u v)
     where
-      go : (n i : ℕ) → n ≤ i → 0 ≡ n - i
-      go n i h = omega arith
+      whole : pointsBytes (integersFrom (i + 1) b from) ≡ pointsBytes (integersFrom i b from) ++ (longBytes (integerAt b at) ++ longBytes (integerAt b (at + 17)))
+      whole =
+          ap (λ (k : ℕ). pointsBytes (integersFrom k b from)) (add-one i)
+          ∙ ap pointsBytes (integers-more i from at e)
+          ∙ joined-append pointBytes (integersFrom i b from) (integersAt b at ∷ [])
+          ∙ ap (λ (bs : List ℕ). pointsBytes (integersFrom i b from) ++ bs) (append-nil (pointBytes (integersAt b at)))
 
 -- ---- what they are converted to
 
-module _ (policy : GdsRoundingPolicy) (d : Float) where
+module _ (policy : GdsRoundingPolicy) (d : Float) (b : List ℕ) where
   unit-pure : (s : Spot) (u : Unit) (v : ℤ) → passed d u ≡ some v → convertUnit policy d s u ≡ pure v
   unfolding convertUnit convertBy
   unit-pure s u v h = ap (convertBy policy d s u) h
 
-  point-pure : (b : List ℕ) (f k at : ℕ) → Passes d b at → Passes d b (at + 17) → writePoint policy d f k (pointAt b at) ≡ pure (integersAt b at)
+  point-pure : (f k at : ℕ) → Passes d b at → Passes d b (at + 17) → writePoint policy d f k (pointAt b at) ≡ pure (integersAt b at)
   unfolding writePoint pointAt _>>=_
-  point-pure b f k at x y = rw (unit-pure _ (unitAt b at) _ x, unit-pure _ (unitAt b (at + 17)) _ y)
+  point-pure f k at x y = rw (unit-pure _ (unitAt b at) _ x, unit-pure _ (unitAt b (at + 17)) _ y)
 
-  pub points-pure : (b : List ℕ) (n k at : ℕ) → AllPass d b n at → writePoints policy d k (pointsFrom n b at) ≡ pure (integersFrom n b at)
-  unfolding writePoints valuesFrom _>>=_
-  points-pure b zero k at h = refl
-  points-pure b (suc n) k at h = rw (point-pure b 0 k at (h .0) (h .1), points-pure b n (suc k) (at + 34) (h .2))
+  module _ {R : Type 0} (stop : Refusal → R) (e : Entry) where
+    -- k points that pass, in front of m others, whatever is to follow: the others come next, from place p + k on
+    pub run-passing : (k m p at : ℕ) (g : List (Point ℤ) → Entry → R) → AllPass d b k at
+        → run stop e (writePoints policy d p (pointsFrom (k + m) b at)) g
+        ≡ run stop e (writePoints policy d (p + k) (pointsFrom m b (at + 34 * k))) (λ qs e′. g (integersFrom k b at ++ qs) e′)
+    unfolding valuesFrom
+    run-passing zero m p at g h = ap₂ (λ (j : ℕ) (ps : List (Point Unit)). run stop e (writePoints policy d j ps) g) (none p) (ap₂ (λ (j k : ℕ). pointsFrom j b k) (zero-add m) (place at))
+      where
+        none : (p : ℕ) → p ≡ p + 0
+        none p = omega arith
 
-module _ (policy : GdsRoundingPolicy) (d : Float) (b : List ℕ) (n from : ℕ) (h : AllPass d b n from) (e : Entry) where
-  -- measured: the ends, and the entry as it is
-  pub pass-measured : run W.Refused e (writePoints policy d 0 (pointsFrom n b from)) walked ≡ walked (integersFrom n b from) e
-  unfolding run notedAll
-  pass-measured = ap (λ (m : Made (List (Point ℤ))). run W.Refused e m walked) (points-pure policy d b n 0 from h)
+        place : (at : ℕ) → at ≡ at + 34 * 0
+        place at = omega arith
+    run-passing (suc k) m p at g h =
+        ap (λ (j : ℕ). run stop e (writePoints policy d p (pointsFrom j b at)) g) (suc-add k m)
+        ∙ turn stop policy d e p (pointAt b at) (pointsFrom (k + m) b (at + 34)) g
+        ∙ ap (λ (w : Made (Point ℤ)). run stop e w (others stop policy d e p (pointAt b at) (pointsFrom (k + m) b (at + 34)) g)) (point-pure 0 p at (h .0) (h .1))
+        ∙ run-pure stop e (integersAt b at) (others stop policy d e p (pointAt b at) (pointsFrom (k + m) b (at + 34)) g)
+        ∙ run-passing k m (suc p) (at + 34) (λ qs e′. g (integersAt b at ∷ qs) e′) (h .2)
+        ∙ ap₂ (λ (j l : ℕ). run stop e (writePoints policy d j (pointsFrom m b l)) (λ qs e′. g (integersAt b at ∷ (integersFrom k b (at + 34) ++ qs)) e′)) (number p k) (place at k)
+      where
+        number : (p k : ℕ) → suc p + k ≡ p + suc k
+        number p k = omega arith
 
-  -- and written
-  pub pass-put : {start to : ℕ} {before after : List ℕ} → WroteAt (pointsBytes (integersFrom n b from)) before after start to
-      → Writes pointsBytes e (writePoints policy d 0 (pointsFrom n b from)) start before after (record { to = to; entry = e })
-  unfolding notedAll
-  pass-put w = record { step = record { value = integersFrom n b from; deviations = []; makes = points-pure policy d b n 0 from h }; wrote = w; entry = refl }
+        place : (at k : ℕ) → at + 34 + 34 * k ≡ at + 34 * suc k
+        place at k = omega arith
 
 -- ---- the ends
 
@@ -121,36 +150,3 @@ ends-are b (suc m) from last e x0 y0 x1 y1 l g hx hy kx ky =
     ap₂ (λ (x y : ℤ). W.Through x y x1 y1 e) hx hy
     ∙ ap₂ (λ (x y : ℤ). W.Through (integerAt b from) (integerAt b (from + 17)) x y e) kx ky
     ∙ ap (λ (q : Point ℤ). W.Through (integerAt b from) (integerAt b (from + 17)) (q .x) (q .y) e) p
-
--- ---- their bytes, in turns: what is still to be written stands at the place reached
-
-pub length-integers : (n : ℕ) (b : List ℕ) (at : ℕ) → length (pointsBytes (integersFrom n b at)) ≡ 8 * n
-unfolding valuesFrom
-length-integers zero b at = refl
-length-integers (suc n) b at = let h = length-integers n b (at + 34) in omega arith
-
-module _ (b : List ℕ) (n : ℕ) where
-  abbrev pub left : ℕ → ℕ → ℕ → List ℕ → List ℕ
-  left i at to out = splice to (pointsBytes (integersFrom (n - i) b at)) out
-
-  pub left-start : (at to : ℕ) (out : List ℕ) → splice to (pointsBytes (integersFrom n b at)) out ≡ left 0 at to out
-  left-start at to out = ap (λ (j : ℕ). splice to (pointsBytes (integersFrom j b at)) out) (go n)
-    where
-      go : (n : ℕ) → n ≡ n - 0
-      go n = omega arith
-
-  pub left-turn : (i at to r : ℕ) (out out′ : List ℕ) → i < n → WroteAt (longBytes (integerAt b at) ++ longBytes (integerAt b (at + 17))) out out′ to r
-      → left i at to out ≡ left (i + 1) (at + 34) r out′
-  unfolding valuesFrom
-  left-turn i at to r out out′ l w =
-      ap (λ (j : ℕ). splice to (pointsBytes (integersFrom j b at)) out) (go n i l) ∙ at-turn w (pointsBytes (integersFrom (n - (i + 1)) b (at + 34)))
-    where
-      go : (n i : ℕ) → i < n → n - i ≡ suc (n - (i + 1))
-      go n i h = omega arith
-
-  pub left-end : (i at to : ℕ) (out : List ℕ) → n ≤ i → left i at to out ≡ out
-  unfolding valuesFrom
-  left-end i at to out l = ap (λ (j : ℕ). splice to (pointsBytes (integersFrom j b at)) out) (go n i l) ∙ at-end to out
-    where
-      go : (n i : ℕ) → n ≤ i → n - i ≡ 0
-      go n i h = omega arith

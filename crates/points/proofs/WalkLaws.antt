@@ -25,7 +25,7 @@ use Rattle.conversion.proofs.MadeLaws.{steps}
 use Rattle.stream.specs.Records.{longBytes, pointsBytes}
 use Rattle.steps.specs.code.Steps.{Succeeds}
 use Rattle.steps.proofs.StepLaws.{yields, succeeds, written, putting}
-use Rattle.forms.specs.code.Place.{valuesFrom, pointAt, pointsFrom}
+use Rattle.block_places.specs.code.Place.{valuesFrom, pointAt, pointsFrom}
 use Rattle.coordinate.specs.declared.Pointed.{Pointed}
 use Rattle.coordinate.specs.declared.Pointed.the-variants as P
 use Rattle.coordinate.specs.code.Coordinate.{pointed, GivesPoint}

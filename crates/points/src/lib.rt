@@ -1,30 +1,29 @@
 // Lists of points of the sheet: measured with the element's report entry, and written into the lent output (`write_points_to_file` of write/mod.rs).
 ghost use mathlib.Core.Path.{_≡_};
 ghost use mathlib.Core.Bool.{true};
-ghost use Prim.Native.Nat.{_+_, _-_, _*_, _≤_};
+ghost use Prim.Native.Nat.{_+_, _*_, _≤_};
 ghost use lib.ListN.{length};
-ghost use Rattle.big_endian.specs.Big.{numberAt};
-ghost use Rattle.big_endian.specs.Buffer.{WroteAt};
-ghost use Rattle.sheet.specs.Form.{integerKind};
+ghost use mir.Syntax.{w64};
+ghost use mir.Val.{Fits};
 ghost use Rattle.conversion.specs.code.Fold.{run, Spare};
 ghost use Rattle.conversion.specs.Points.{writePoints};
 ghost use Rattle.stream.specs.Records.{pointsBytes};
 ghost use Rattle.records.specs.code.Bytes.{xyPointLength};
 ghost use Rattle.steps.specs.code.Steps.{Succeeds, Writes};
-ghost use Rattle.forms.specs.code.Place.{pointsFrom, coordinateLength, pointLength};
-ghost use Rattle.forms.specs.code.Forms.{pointsAt, PointsIn};
+ghost use Rattle.block_places.specs.code.Place.{pointsFrom, coordinateLength, pointLength};
+ghost use Rattle.block_places.specs.code.Places.{pointsEnd, pointsAt, PointsIn};
 ghost use Rattle.points.specs.declared.Walked.the-variants as W;
 ghost use Rattle.cell.specs.Limits.{maxPoints};
-ghost use Rattle.points.specs.code.Integers.{integerAt, integersFrom, AllPass};
-ghost use Rattle.points.specs.code.Walk.{through, walked, withLength};
+ghost use Rattle.points.specs.code.Integers.{integerAt, integersFrom, InUnit, Passing, PutsPassing};
+ghost use Rattle.points.specs.code.Walk.{restFrom, through, walked, withLength};
+use block_places::COORDINATE;
+use block_places::POINT;
+use block_places::PointsPlaces;
 use conversion::CoordinateConverter;
 use conversion::Entry;
 use conversion::POINT_FIELD;
 use coordinate::Plain;
 use coordinate::Pointed;
-use forms::COORDINATE;
-use forms::POINT;
-use forms::PointsPlaces;
 use refusal::Refusal;
 use steps::Measured;
 use steps::Written;
@@ -46,42 +45,57 @@ pub enum Walked {
     },
 }
 
-// ---- integers in the database unit, which pass unchanged: a clean layout's lists have nothing else, so that they are told apart once
+// The first point, with the entry after it.
+struct First {
+    x: i32,
+    y: i32,
+    entry: Entry,
+}
+
+// ---- integers in the database unit, which pass unchanged: a clean layout's lists have nothing else, so that the points in front that pass are told apart from the rest
 
 // Whether the coordinate at a place is an integer whose unit has these bits.
 fn in_unit(b: &[u8], at: usize, bits: u64) -> bool
     requires { ⌜ at + coordinateLength ≤ length (now b) ⌝ }
-    ensures { λ r. ⌜ (r ≡ true → (numberAt 1 (now (b .entry)) at ≡ integerKind) × (numberAt 8 (now (b .entry)) (at + 9) ≡ bits)) ⌝ }
+    ensures { λ r. ⌜ (r ≡ true → InUnit bits (now (b .entry)) at) ⌝ }
 {
-    if big_endian::u8_at(b, at) == forms::INTEGER {
-        return big_endian::u64_at(b, at + forms::UNIT) == bits;
+    if big_endian::u8_at(b, at) == block_places::INTEGER {
+        return big_endian::u64_at(b, at + block_places::UNIT) == bits;
     }
     false
 }
 
-// Whether all points pass for sure: a unit with the bits of d equals it, unless it is a NaN. Where the answer is no they may still pass.
-fn all_pass(d: f64, b: &[u8], points: PointsPlaces) -> bool
+// Whether both coordinates of the point at a place are.
+fn point_in_unit(b: &[u8], at: usize, bits: u64) -> bool
+    requires { ⌜ at + pointLength ≤ length (now b) ⌝ }
+    ensures { λ r. ⌜ (r ≡ true → InUnit bits (now (b .entry)) at × InUnit bits (now (b .entry)) (at + coordinateLength)) ⌝ }
+{
+    if !in_unit(b, at, bits) {
+        return false;
+    }
+    in_unit(b, at + COORDINATE, bits)
+}
+
+// How many points in front pass for sure: a unit with the bits of d equals it, unless it is a NaN. The next one may still pass.
+fn count_passing(d: f64, b: &[u8], points: PointsPlaces) -> usize
     requires { ⌜ PointsIn (now b) points ⌝ }
-    ensures { λ r. ⌜ (r ≡ true → AllPass d (now (b .entry)) (points .count) (points .place)) ⌝ }
+    ensures { λ r. ⌜ Passing d (now (b .entry)) points r ⌝ }
 {
     if d != d {
-        return false;
+        return 0;
     }
     let bits = f64::to_bits(d);
     let n = points.count;
     let mut i: usize = 0;
     let mut at = points.place;
     while i < n {
-        if !in_unit(b, at, bits) {
-            return false;
-        }
-        if !in_unit(b, at + COORDINATE, bits) {
-            return false;
+        if !point_in_unit(b, at, bits) {
+            return i;
         }
         at = at + POINT;
         i = i + 1;
     }
-    true
+    i
 }
 
 // The integer of the coordinate at a place.
@@ -109,49 +123,78 @@ fn integer_ends(b: &[u8], points: PointsPlaces, entry: Entry) -> Walked
     }
 }
 
-// Eight bytes for each point; the place after them.
-fn put_integers(b: &[u8], points: PointsPlaces, out: &mut [u8], start: usize) -> usize
+// The same points, with their bytes, eight each, from a place of the output on.
+fn put_passing(d: f64, b: &[u8], points: PointsPlaces, out: &mut [u8], start: usize) -> usize
     requires { ⌜ PointsIn (now b) points ⌝ }
     requires { ⌜ start + xyPointLength * points .count ≤ length (now out) ⌝ }
-    ensures { λ r. ⌜ WroteAt (pointsBytes (integersFrom (points .count) (now (b .entry)) (points .place))) (now (out .entry)) (now (out .exit)) start r ⌝ }
+    ensures { λ r. ⌜ PutsPassing d (now (b .entry)) points start (now (out .entry)) (now (out .exit)) r ⌝ }
 {
+    if d != d {
+        return 0;
+    }
+    let bits = f64::to_bits(d);
     let from = points.place;
     let n = points.count;
     let mut i: usize = 0;
     let mut at = from;
     let mut to = start;
     while i < n {
+        if !point_in_unit(b, at, bits) {
+            return i;
+        }
         to = coordinate::put_point(out, to, integer_at(b, at), integer_at(b, at + COORDINATE));
         at = at + POINT;
         i = i + 1;
     }
-    to
+    i
+}
+
+// ---- the rest, after the points in front that pass
+
+// What a list has after its first k points.
+fn rest_of(points: PointsPlaces, k: usize) -> PointsPlaces
+    requires { ⌜ k ≤ points .count ⌝ }
+    requires { ⌜ Fits w64 (pointsEnd points) ⌝ }
+    ensures { λ r. ⌜ (r .count + k ≡ points .count) × (r .place ≡ points .place + pointLength * k) ⌝ }
+{
+    PointsPlaces {
+        count: points.count - k,
+        place: points.place + POINT * k,
+    }
+}
+
+// After how many points the rest begins where they are measured: the first is converted in any case, since it is one of the ends.
+fn rest_from(passing: usize) -> usize
+    ensures { λ r. ⌜ r ≡ restFrom passing ⌝ }
+{
+    if passing == 0 {
+        return 1;
+    }
+    passing
 }
 
 // ---- measured
 
-// The points after the first, which is (x0, y0).
+// The rest: `from` is its first point's place in the whole list, whose first point is given.
 fn measure_rest(
     converter: CoordinateConverter,
     b: &[u8],
-    points: PointsPlaces,
-    x0: i32,
-    y0: i32,
-    entry: Entry,
+    rest: PointsPlaces,
+    from: usize,
+    first: First,
 ) -> Walked
-    requires { ⌜ PointsIn (now b) points ⌝ }
-    requires { ⌜ 1 ≤ points .count ⌝ }
-    requires { ⌜ points .count ≤ maxPoints ⌝ }
-    requires { ⌜ Spare (2 * (points .count - 1)) entry ⌝ }
-    ensures { λ r. ⌜ r ≡ run W.Refused entry (writePoints (converter .policy) (converter .d) 1 (pointsFrom (points .count - 1) (now (b .entry)) (points .place + pointLength))) (through (record { x = x0; y = y0 }) (record { x = x0; y = y0 })) ⌝ }
+    requires { ⌜ PointsIn (now b) rest ⌝ }
+    requires { ⌜ from + rest .count ≤ maxPoints ⌝ }
+    requires { ⌜ Spare (2 * rest .count) (first .entry) ⌝ }
+    ensures { λ r. ⌜ r ≡ run W.Refused (first .entry) (writePoints (converter .policy) (converter .d) from (pointsAt (now (b .entry)) rest)) (through (record { x = first .x; y = first .y }) (record { x = first .x; y = first .y })) ⌝ }
 {
-    let n = points.count;
-    let mut i: usize = 1;
-    let mut at = points.place + POINT;
-    let mut x1 = x0;
-    let mut y1 = y0;
-    let mut e = entry;
-    while i < n {
+    let last = from + rest.count;
+    let mut i = from;
+    let mut at = rest.place;
+    let mut x1 = first.x;
+    let mut y1 = first.y;
+    let mut e = first.entry;
+    while i < last {
         let cx = coordinate::convert_at(converter, b, at);
         let cy = coordinate::convert_at(converter, b, at + COORDINATE);
         match coordinate::plain_point(cx, cy) {
@@ -174,8 +217,8 @@ fn measure_rest(
         i = i + 1;
     }
     Walked::Through {
-        x0,
-        y0,
+        x0: first.x,
+        y0: first.y,
         x1,
         y1,
         entry: e,
@@ -197,12 +240,17 @@ pub fn measure_points(
     ensures { λ r. ⌜ r ≡ run W.Refused entry (writePoints (converter .policy) (converter .d) 0 (pointsFrom count (now (b .entry)) place)) walked ⌝ }
 {
     let points = PointsPlaces { count, place };
-    if all_pass(converter.d, b, points) {
+    let passing = count_passing(converter.d, b, points);
+    if passing == count {
         return integer_ends(b, points, entry);
     }
     match coordinate::convert_point(converter, b, place, POINT_FIELD, 0, entry) {
         Pointed::Refused { refusal } => Walked::Refused { refusal },
-        Pointed::At { x, y, entry: e } => measure_rest(converter, b, points, x, y, e),
+        Pointed::At { x, y, entry: e } => {
+            let first = First { x, y, entry: e };
+            let from = rest_from(passing);
+            measure_rest(converter, b, rest_of(points, from), from, first)
+        }
     }
 }
 
@@ -224,28 +272,28 @@ pub fn with_length(walked: Walked, length: usize) -> Measured
 
 // ---- written
 
-// All points in turn, converted.
-fn put_converted(
+// The rest, converted, after what is written already: `from` is its first point's place in the whole list.
+fn put_rest(
     converter: CoordinateConverter,
     b: &[u8],
-    points: PointsPlaces,
+    rest: PointsPlaces,
+    from: usize,
     out: &mut [u8],
-    start: usize,
-    entry: Entry,
+    front: Written,
 ) -> Written
-    requires { ⌜ PointsIn (now b) points ⌝ }
-    requires { ⌜ points .count ≤ maxPoints ⌝ }
-    requires { ⌜ Succeeds (writePoints (converter .policy) (converter .d) 0 (pointsAt (now b) points)) ⌝ }
-    requires { ⌜ start + xyPointLength * points .count ≤ length (now out) ⌝ }
-    requires { ⌜ Spare (2 * points .count) entry ⌝ }
-    ensures { λ r. ⌜ Writes pointsBytes entry (writePoints (converter .policy) (converter .d) 0 (pointsAt (now (b .entry)) points)) start (now (out .entry)) (now (out .exit)) r ⌝ }
+    requires { ⌜ PointsIn (now b) rest ⌝ }
+    requires { ⌜ from + rest .count ≤ maxPoints ⌝ }
+    requires { ⌜ Succeeds (writePoints (converter .policy) (converter .d) from (pointsAt (now b) rest)) ⌝ }
+    requires { ⌜ front .to + xyPointLength * rest .count ≤ length (now out) ⌝ }
+    requires { ⌜ Spare (2 * rest .count) (front .entry) ⌝ }
+    ensures { λ r. ⌜ Writes pointsBytes (front .entry) (writePoints (converter .policy) (converter .d) from (pointsAt (now (b .entry)) rest)) (front .to) (now (out .entry)) (now (out .exit)) r ⌝ }
 {
-    let n = points.count;
-    let mut i: usize = 0;
-    let mut at = points.place;
-    let mut to = start;
-    let mut e = entry;
-    while i < n {
+    let last = from + rest.count;
+    let mut i = from;
+    let mut at = rest.place;
+    let mut to = front.to;
+    let mut e = front.entry;
+    while i < last {
         let cx = coordinate::convert_at(converter, b, at);
         let cy = coordinate::convert_at(converter, b, at + COORDINATE);
         match coordinate::plain_point(cx, cy) {
@@ -269,7 +317,7 @@ fn put_converted(
     Written { to, entry: e }
 }
 
-// All points, eight bytes each, after what is written already.
+// All points, eight bytes each, after what is written already, and the entry with them: one walk, in which those that pass are copied and the others converted, each once.
 pub fn put_points(
     converter: CoordinateConverter,
     b: &[u8],
@@ -288,11 +336,8 @@ pub fn put_points(
     let points = PointsPlaces { count, place };
     let start = front.to;
     let entry = front.entry;
-    if all_pass(converter.d, b, points) {
-        return Written {
-            to: put_integers(b, points, out, start),
-            entry,
-        };
-    }
-    put_converted(converter, b, points, out, start, entry)
+    let passing = put_passing(converter.d, b, points, out, start);
+    let rest = rest_of(points, passing);
+    let to = start + records::XY_POINT * passing;
+    put_rest(converter, b, rest, passing, out, Written { to, entry })
 }

@@ -18,8 +18,8 @@ use Rattle.validation.specs.code.Check.{shapeChecks}
 use Rattle.validation.proofs.CheckLaws.{behind, behind-refused, behind-passed, behind-yields, passed-within}
 use Rattle.steps.specs.code.Steps.{Succeeds}
 use Rattle.steps.proofs.StepLaws.{yields}
-use Rattle.forms.specs.declared.ShapePlaces.{ShapePlaces}
-use Rattle.forms.specs.code.Forms.{pointsAt, shapeAt}
+use Rattle.block_places.specs.declared.ShapePlaces.{ShapePlaces}
+use Rattle.block_places.specs.code.Places.{pointsAt, shapeAt}
 use Rattle.points.specs.declared.Walked.the-variants as W
 use Rattle.points.specs.code.Walk.{walked}
 use Rattle.points.proofs.WalkLaws.{length-from}

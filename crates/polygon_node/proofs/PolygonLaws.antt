@@ -33,8 +33,8 @@ use Rattle.steps.specs.declared.Written.{Written}
 use Rattle.steps.specs.code.Steps.{maxDeviations, sizing, Measures, Succeeds, Writes}
 use Rattle.steps.proofs.StepLaws.{yields, succeeds, same-step}
 use Rattle.records.specs.code.Bytes.{xyPointLength, Placed}
-use Rattle.forms.specs.declared.ShapePlaces.{ShapePlaces}
-use Rattle.forms.specs.code.Forms.{pointsAt, shapeAt, PointsIn, ShapeIn}
+use Rattle.block_places.specs.declared.ShapePlaces.{ShapePlaces}
+use Rattle.block_places.specs.code.Places.{pointsAt, shapeAt, PointsIn, ShapeIn}
 use Rattle.points.specs.declared.Walked.{Walked}
 use Rattle.points.specs.declared.Walked.the-variants as W
 use Rattle.points.specs.code.Walk.{through, walked, withLength}

@@ -20,8 +20,8 @@ use Rattle.stream.specs.Record.{LAYER, XY, fourByte, recordBytes, streamBytes}
 use Rattle.stream.specs.Records.{emptyRecord, wordRecord, xyRecord, pointsBytes, shapeRecords}
 use Rattle.cell.specs.Write.{writeShape}
 use Rattle.records.specs.code.Bytes.{headBytes, Placed}
-use Rattle.forms.specs.declared.ShapePlaces.{ShapePlaces}
-use Rattle.forms.specs.code.Forms.{pointsAt, shapeAt}
+use Rattle.block_places.specs.declared.ShapePlaces.{ShapePlaces}
+use Rattle.block_places.specs.code.Places.{pointsAt, shapeAt}
 use Rattle.steps.specs.declared.Written.{Written}
 use Rattle.steps.specs.code.Steps.{Writes}
 use Rattle.steps.proofs.StepLaws.{write-after}

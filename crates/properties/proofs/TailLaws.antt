@@ -26,8 +26,8 @@ use Rattle.cell.specs.Limits.{maxValueLength}
 use Rattle.cell.specs.Write.{writeProperties}
 use Rattle.records.specs.code.Bytes.{Placed, Recorded}
 use Rattle.records.proofs.RecordLaws.{length-record, length-padded, then-placed}
-use Rattle.forms.specs.code.Place.{valuesFrom, placeFrom, stringAt, propertyAt, propertyEnd, propertiesFrom}
-use Rattle.forms.proofs.StringLaws.{length-string}
+use Rattle.block_places.specs.code.Place.{valuesFrom, placeFrom, stringAt, propertyAt, propertyEnd, propertiesFrom}
+use Rattle.block_places.proofs.StringLaws.{length-string}
 use Rattle.steps.specs.declared.Measured.{Measured}
 use Rattle.steps.specs.declared.Measured.the-variants as M
 use Rattle.steps.specs.code.Steps.{sizing, Succeeds}

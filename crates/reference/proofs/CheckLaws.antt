@@ -21,10 +21,10 @@ use Rattle.sheet.specs.Element as S
 use Rattle.cell.specs.Limits.{within, maxNameLength, maxColRow}
 use Rattle.cell.specs.Names.{isName}
 use Rattle.cell.specs.Write.{isSome, inUnit}
-use Rattle.forms.specs.declared.ReferencePlaces.{ReferencePlaces}
-use Rattle.forms.specs.code.Place.{pointAt, spacingAt, stringAt, stringEnd}
-use Rattle.forms.specs.code.Forms.{referenceAt}
-use Rattle.forms.proofs.StringLaws.{length-string}
+use Rattle.block_places.specs.declared.ReferencePlaces.{ReferencePlaces}
+use Rattle.block_places.specs.code.Place.{pointAt, spacingAt, stringAt, stringEnd}
+use Rattle.block_places.specs.code.Places.{referenceAt}
+use Rattle.block_places.proofs.StringLaws.{length-string}
 use Rattle.steps.specs.code.Steps.{Succeeds}
 use Rattle.steps.proofs.StepLaws.{yields, past-check}
 use Rattle.validation.specs.declared.Check.the-variants as C

@@ -17,14 +17,14 @@ use Rattle.conversion.specs.declared.GdsRoundingPolicy.{GdsRoundingPolicy}
 use Rattle.conversion.specs.Made.{pure, _>>=_}
 use Rattle.conversion.proofs.MadeLaws.{Yields, made-yields, steps, checked}
 use Rattle.cell.specs.Write.{writeSref, writeAref, writeReference}
-use Rattle.forms.specs.code.Forms.{referenceAt}
+use Rattle.block_places.specs.code.Places.{referenceAt}
 use Rattle.stream.specs.Strings.{padded}
 use Rattle.stream.specs.Structure as D
 use Rattle.stream.specs.Record.{Rec, SREF, AREF, SNAME, XY, fourByte, streamBytes}
 use Rattle.stream.specs.Records.{emptyRecord, stringRecord, colrowRecord, longBytes, xyRecord, endpointOf, stransRecords, srefRecords, arefRecords}
-use Rattle.forms.specs.declared.ReferencePlaces.{ReferencePlaces}
-use Rattle.forms.specs.code.Place.{stringAt, stringEnd}
-use Rattle.forms.proofs.StringLaws.{length-string}
+use Rattle.block_places.specs.declared.ReferencePlaces.{ReferencePlaces}
+use Rattle.block_places.specs.code.Place.{stringAt, stringEnd}
+use Rattle.block_places.proofs.StringLaws.{length-string}
 use Rattle.records.specs.code.Bytes.{headBytes, Placed, Recorded}
 use Rattle.records.proofs.RecordLaws.{length-padded, length-first, record-at, then-rest, alone}
 use Rattle.transform.specs.declared.Strans.{Strans}

@@ -24,9 +24,9 @@ use Rattle.sheet.specs.Element as S
 use Rattle.stream.specs.Strings.{padded}
 use Rattle.stream.specs.Structure as D
 use Rattle.cell.specs.Write.{inUnit, writeTransform, writeSref, writeAref, writeReference}
-use Rattle.forms.specs.declared.ReferencePlaces.{ReferencePlaces}
-use Rattle.forms.specs.code.Place.{pointAt, stringAt, stringEnd}
-use Rattle.forms.specs.code.Forms.{referenceAt}
+use Rattle.block_places.specs.declared.ReferencePlaces.{ReferencePlaces}
+use Rattle.block_places.specs.code.Place.{pointAt, stringAt, stringEnd}
+use Rattle.block_places.specs.code.Places.{referenceAt}
 use Rattle.transform.specs.declared.Strans.{Strans}
 use Rattle.transform.specs.code.Strans.{saidOf}
 use Rattle.transform.proofs.StransLaws.{transform-length, strans-length-is}

@@ -7,8 +7,8 @@ ghost use Rattle.big_endian.specs.Big.{numberAt};
 ghost use Rattle.conversion.specs.code.Fold.{Spare, run};
 ghost use Rattle.stream.specs.Records.{xyRecord};
 ghost use Rattle.cell.specs.Write.{inUnit, writeReference};
-ghost use Rattle.forms.specs.code.Place.{stringEnd, pointLength};
-ghost use Rattle.forms.specs.code.Forms.{referenceAt, ReferenceIn};
+ghost use Rattle.block_places.specs.code.Place.{stringEnd, pointLength};
+ghost use Rattle.block_places.specs.code.Places.{referenceAt, ReferenceIn};
 ghost use Rattle.records.specs.code.Bytes.{Placed, Recorded};
 ghost use Rattle.transform.specs.code.Strans.{saidOf, stransLength};
 ghost use Rattle.array.specs.declared.Array.the-variants as Answer;
@@ -17,10 +17,10 @@ ghost use Rattle.steps.specs.code.Steps.{maxDeviations, Measures, Succeeds, Wri
 ghost use Rattle.reference.specs.code.Reference.{referenceBytes, sizeOf, singleRest, cornersLength, arrayRest, maxFrontLength, isSingle, referenceLength, lacking, Bounded, Checks, Encodes, afterTransform, afterChecks, turnedArray, srefOf, arefOf, GivesReference};
 use array::Array;
 use array::Corners;
+use block_places::ReferencePlaces;
 use conversion::CoordinateConverter;
 use conversion::Entry;
 use coordinate::Pointed;
-use forms::ReferencePlaces;
 use refusal::Refusal;
 use steps::Measured;
 use steps::Written;
@@ -67,7 +67,7 @@ fn lacks_spacing(b: &[u8], n: u32, at: usize) -> bool
     ensures { λ r. ⌜ r ≡ lacking (now (b .entry)) n at ⌝ }
 {
     if n > 1 {
-        return forms::is_absent(b, at);
+        return block_places::is_absent(b, at);
     }
     false
 }
@@ -77,7 +77,7 @@ fn check_reference(b: &[u8], s: ReferencePlaces) -> Check
     requires { ⌜ ReferenceIn (now b) s ⌝ }
     ensures { λ r. ⌜ Checks (now (b .entry)) s (referenceAt (now (b .entry)) s) r ⌝ }
 {
-    if !validation::validate_structure_name(forms::string_at(b, s.name)) {
+    if !validation::validate_structure_name(block_places::string_at(b, s.name)) {
         return Check::Refused {
             refusal: Refusal::Name,
         };
@@ -288,7 +288,7 @@ fn put_sref(out: &mut [u8], b: &[u8], s: ReferencePlaces, strans: Strans, x: i32
     ensures { λ r. ⌜ Placed (referenceBytes (srefOf (now (b .entry)) s strans x y)) (sizeOf (stransLength strans) (numberAt 2 (now (b .entry)) (s .name)) singleRest) (now (out .entry)) (now (out .exit)) 0 r ⌝ }
 {
     let a = records::put_empty_at(out, 0, records::SREF);
-    let a2 = records::put_string_at(out, a, records::SNAME, forms::string_at(b, s.name));
+    let a2 = records::put_string_at(out, a, records::SNAME, block_places::string_at(b, s.name));
     let a3 = transform::put_strans_at(out, a2, strans);
     coordinate::put_xy_at(out, a3, x, y)
 }
@@ -302,7 +302,7 @@ fn put_aref(out: &mut [u8], b: &[u8], s: ReferencePlaces, strans: Strans, c: Cor
     ensures { λ r. ⌜ Placed (referenceBytes (arefOf (now (b .entry)) s strans c)) (sizeOf (stransLength strans) (numberAt 2 (now (b .entry)) (s .name)) arrayRest) (now (out .entry)) (now (out .exit)) 0 r ⌝ }
 {
     let a = records::put_empty_at(out, 0, records::AREF);
-    let a2 = records::put_string_at(out, a, records::SNAME, forms::string_at(b, s.name));
+    let a2 = records::put_string_at(out, a, records::SNAME, block_places::string_at(b, s.name));
     let a3 = transform::put_strans_at(out, a2, strans);
     let a4 = records::put_colrow_at(out, a3, s.columns as u16, s.rows as u16);
     put_corners_at(out, a4, c)

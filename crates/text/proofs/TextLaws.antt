@@ -30,10 +30,10 @@ use Rattle.cell.specs.Limits.{maxLayer, maxStringLength}
 use Rattle.cell.specs.Write.{writeTransform, writeText}
 use Rattle.records.specs.code.Bytes.{Placed, Recorded}
 use Rattle.records.proofs.RecordLaws.{length-padded, length-first, then-rest, alone}
-use Rattle.forms.specs.declared.TextPlaces.{TextPlaces}
-use Rattle.forms.specs.code.Place.{stringAt, stringEnd}
-use Rattle.forms.specs.code.Forms.{textAt}
-use Rattle.forms.proofs.StringLaws.{length-string}
+use Rattle.block_places.specs.declared.TextPlaces.{TextPlaces}
+use Rattle.block_places.specs.code.Place.{stringAt, stringEnd}
+use Rattle.block_places.specs.code.Places.{textAt}
+use Rattle.block_places.proofs.StringLaws.{length-string}
 use Rattle.coordinate.specs.declared.Pointed.{Pointed}
 use Rattle.coordinate.specs.declared.Pointed.the-variants as P
 use Rattle.coordinate.specs.code.Coordinate.{pointed, GivesPoint}

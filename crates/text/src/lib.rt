@@ -6,17 +6,17 @@ ghost use Rattle.big_endian.specs.Big.{numberAt};
 ghost use Rattle.conversion.specs.code.Fold.{Spare, run};
 ghost use Rattle.cell.specs.Limits.{maxStringLength};
 ghost use Rattle.cell.specs.Write.{writeText};
-ghost use Rattle.forms.specs.code.Place.{stringEnd};
-ghost use Rattle.forms.specs.code.Forms.{textAt, TextIn};
+ghost use Rattle.block_places.specs.code.Place.{stringEnd};
+ghost use Rattle.block_places.specs.code.Places.{textAt, TextIn};
 ghost use Rattle.transform.specs.code.Strans.{stransLength};
 ghost use Rattle.records.specs.code.Bytes.{Placed};
 ghost use Rattle.steps.specs.code.Ready.{stopped, ready};
 ghost use Rattle.steps.specs.code.Steps.{maxDeviations, Measures, Succeeds, Writes};
 ghost use Rattle.text.specs.code.Text.{sizeOf, textBytes, textLength, afterChecks, textOf, readyOf};
+use block_places::TextPlaces;
 use conversion::CoordinateConverter;
 use conversion::Entry;
 use coordinate::Pointed;
-use forms::TextPlaces;
 use refusal::Refusal;
 use steps::Measured;
 use steps::Written;
@@ -159,7 +159,12 @@ fn put_records(out: &mut [u8], b: &[u8], text: TextPlaces, strans: Strans, x: i3
     let a4 = records::put_word_at(out, a3, records::PRESENTATION, records::BIT_ARRAY, bits);
     let a5 = transform::put_strans_at(out, a4, strans);
     let a6 = coordinate::put_xy_at(out, a5, x, y);
-    records::put_string_at(out, a6, records::STRING, forms::string_at(b, text.string))
+    records::put_string_at(
+        out,
+        a6,
+        records::STRING,
+        block_places::string_at(b, text.string),
+    )
 }
 
 // The records at the start of the part that is lent; every value is known before the first byte is written.

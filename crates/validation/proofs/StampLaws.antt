@@ -8,7 +8,7 @@ use lib.Dec.{eqb}
 use lib.ListN.{getD}
 use borrow.Author.Tests.{eq-eqb, ne-eqb}
 use Rattle.big_endian.specs.Big.{numberAt}
-use Rattle.forms.specs.code.Place.{valuesFrom, wordsFrom}
+use Rattle.block_places.specs.code.Place.{valuesFrom, wordsFrom}
 use Rattle.cell.specs.Stamps.{isLeap, isDate, stampFits, allZero}
 
 -- ---- a test turned round

@@ -1,7 +1,7 @@
 // The caller's first checks; points, layer and type; names and stamps (write/validation.rs, timestamp.rs).
+use block_places::NUMBER;
 use conversion::CallerPolicy;
 use conversion::GdsRoundingPolicy;
-use forms::NUMBER;
 use refusal::Refusal;
 ghost use mathlib.Core.Path.{_≡_};
 ghost use Prim.Native.Nat.{_+_, _*_, _≤_};
@@ -13,7 +13,7 @@ ghost use Rattle.cell.specs.Limits.{maxLayer, maxDataType};
 ghost use Rattle.cell.specs.Names as Names;
 ghost use Rattle.cell.specs.Stamps as Stamps;
 ghost use Rattle.cell.specs.Write.{layerAndType};
-ghost use Rattle.forms.specs.code.Place.{wordsFrom, stampNumbers, stampsLength};
+ghost use Rattle.block_places.specs.code.Place.{wordsFrom, stampNumbers, stampsLength};
 ghost use Rattle.validation.specs.code.Call.{callOf};
 ghost use Rattle.validation.specs.code.Check.{checkOf, shapeChecks};
 

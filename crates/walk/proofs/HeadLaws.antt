@@ -19,11 +19,11 @@ use Rattle.cell.specs.Limits.{within, maxNameLength}
 use Rattle.cell.specs.Stamps.{stampsFit}
 use Rattle.cell.specs.Names.{nameBytes, isName}
 use Rattle.records.proofs.RecordLaws.{length-record, length-padded}
-use Rattle.forms.specs.declared.HeadPlaces.{HeadPlaces}
+use Rattle.block_places.specs.declared.HeadPlaces.{HeadPlaces}
 use Rattle.forms.specs.declared.HeadForm.{HeadForm}
 use Rattle.forms.specs.declared.HeadForm.the-variants as F
-use Rattle.forms.specs.code.Place.{valuesFrom, wordsFrom, stringAt}
-use Rattle.forms.specs.code.Forms.{headAt, HeadIn}
+use Rattle.block_places.specs.code.Place.{valuesFrom, wordsFrom, stringAt}
+use Rattle.block_places.specs.code.Places.{headAt, HeadIn}
 use Rattle.forms.specs.code.Checks.{HeadRead}
 use Rattle.walk.specs.declared.HeadMeasured.the-variants as H
 use Rattle.walk.specs.code.Walk.{headBytes, headMeasured}

@@ -10,9 +10,9 @@ use Rattle.stream.specs.Record.{BGNSTR, STRNAME, recordBytes}
 use Rattle.stream.specs.Records.{stringRecord}
 use Rattle.stream.specs.Strings.{padded}
 use Rattle.records.specs.code.Bytes.{stamped, Recorded}
-use Rattle.forms.specs.declared.HeadPlaces.{HeadPlaces}
-use Rattle.forms.specs.code.Place.{stringAt}
-use Rattle.forms.specs.code.Forms.{headAt}
+use Rattle.block_places.specs.declared.HeadPlaces.{HeadPlaces}
+use Rattle.block_places.specs.code.Place.{stringAt}
+use Rattle.block_places.specs.code.Places.{headAt}
 use Rattle.walk.specs.code.Walk.{headBytes}
 use Rattle.walk.proofs.HeadLaws.{length-words, head-length}
 use Rattle.walk.proofs.StampsLaws.{stamps-back}

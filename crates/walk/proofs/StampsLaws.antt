@@ -8,7 +8,7 @@ use lib.ListN.{length, getD, take, drop, length-take, length-drop}
 use Rattle.big_endian.specs.Big.{Bytes, bytesOf}
 use Rattle.big_endian.proofs.PlaceLaws.{two, number-two}
 use Rattle.stream.specs.Records.{wordsBytes}
-use Rattle.forms.specs.code.Place.{valuesFrom, wordsFrom}
+use Rattle.block_places.specs.code.Place.{valuesFrom, wordsFrom}
 
 -- a number of two bytes, as its bytes
 word-back : (x y : ℕ) → x < 256 → y < 256 → bytesOf 2 (x * 256 + y) ≡ x ∷ y ∷ []

@@ -22,11 +22,11 @@ use Rattle.stream.proofs.BytesLaws.{structure-bytes, endBytes}
 use Rattle.cell.specs.Cell.{structureFor, structureBytes}
 use Rattle.records.specs.code.Bytes.{Recorded}
 use Rattle.records.proofs.RecordLaws.{length-record}
-use Rattle.forms.specs.declared.HeadPlaces.{HeadPlaces}
+use Rattle.block_places.specs.declared.HeadPlaces.{HeadPlaces}
 use Rattle.forms.specs.declared.HeadForm.{HeadForm}
 use Rattle.forms.specs.declared.HeadForm.the-variants as F
-use Rattle.forms.specs.code.Place.{stringAt}
-use Rattle.forms.specs.code.Forms.{headAt, HeadIn}
+use Rattle.block_places.specs.code.Place.{stringAt}
+use Rattle.block_places.specs.code.Places.{headAt, HeadIn}
 use Rattle.forms.specs.code.Checks.{HeadRead}
 use Rattle.walk.specs.declared.Ends.{Ends}
 use Rattle.walk.specs.code.Walk.{headBytes, ElementsFit, PutsElements, StructureFits, PutsStructure}

@@ -1,9 +1,9 @@
 // The cell from its 4 on: the head and the blocks in turn, measured, and then written.
+use block_places::HeadPlaces;
 use cell::Answer;
 use conversion::CoordinateConverter;
 use conversion::Entry;
 use forms::HeadForm;
-use forms::HeadPlaces;
 use refusal::Refusal;
 use steps::Measured;
 ghost use mathlib.Core.Path.{_≡_};
@@ -17,8 +17,8 @@ ghost use Rattle.conversion.specs.code.Fold.{standing};
 ghost use Rattle.sheet.specs.Element.{headOf};
 ghost use Rattle.sheet.specs.Blocks.{pairsFit};
 ghost use Rattle.sheet.specs.Cell.{elementBlocks};
-ghost use Rattle.forms.specs.code.Place.{stringAt};
-ghost use Rattle.forms.specs.code.Forms.{headAt, HeadIn};
+ghost use Rattle.block_places.specs.code.Place.{stringAt};
+ghost use Rattle.block_places.specs.code.Places.{headAt, HeadIn};
 ghost use Rattle.cell.specs.Limits.{maxNameLength, maxSheetLength};
 ghost use Rattle.cell.specs.Cell.{writeBlocks, writeSheet};
 ghost use Rattle.cell.specs.Answer.{answerOf};
@@ -66,7 +66,7 @@ fn measure_head(b: &[u8]) -> HeadMeasured
             refusal: Refusal::Form,
         },
         HeadForm::Head { places } => {
-            let name = forms::string_at(b, places.name);
+            let name = block_places::string_at(b, places.name);
             let dated = validation::stamps_fit(b, places.stamps);
             let named = validation::validate_structure_name(name);
             if !dated {
@@ -189,8 +189,18 @@ fn put_head(b: &[u8], places: HeadPlaces, out: &mut [u8]) -> usize
     ensures { λ r. ⌜ WroteAt (headBytes (headAt (now (b .entry)) places)) (now (out .entry)) (now (out .exit)) 0 r ⌝ }
 {
     let from = places.stamps;
-    let to = records::put_stamps_at(out, 0, records::BGNSTR, &b[from..from + forms::STAMPS]);
-    records::put_string_at(out, to, records::STRNAME, forms::string_at(b, places.name))
+    let to = records::put_stamps_at(
+        out,
+        0,
+        records::BGNSTR,
+        &b[from..from + block_places::STAMPS],
+    );
+    records::put_string_at(
+        out,
+        to,
+        records::STRNAME,
+        block_places::string_at(b, places.name),
+    )
 }
 
 // The element's entry at a place of the report, after its lead, if it stands.

@@ -2,7 +2,7 @@
 use mathlib.Core.Path.{_∙_}
 use native.Mathlib.Omega.{arith}
 use Rattle.conversion.specs.code.Fold.{Spare}
-use Rattle.forms.specs.code.Place.{pointAt, spacingAt}
+use Rattle.block_places.specs.code.Place.{pointAt, spacingAt}
 use Rattle.array.specs.code.Corners.{arrayDeviations}
 use Rattle.array.proofs.CornerLaws.{converted-more, origin-stops, origin-refused, array-made}
 use borrow.Author.Needs.{needs}

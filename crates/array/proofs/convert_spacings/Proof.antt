@@ -1,6 +1,6 @@
 -- `array::convert_spacings` meets its contract: both spacings, turned, and then the steps. Assumes nothing.
 use mathlib.Core.Path.{_∙_}
-use Rattle.forms.specs.code.Place.{spacingAt}
+use Rattle.block_places.specs.code.Place.{spacingAt}
 use Rattle.array.specs.code.Corners.{physicalPart, databasePart}
 use Rattle.array.proofs.CornerLaws.{column-spacing-stops, row-spacing-stops, spacings-made}
 use borrow.Author.Needs.{needs}

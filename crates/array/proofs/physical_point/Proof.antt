@@ -3,7 +3,7 @@ use mathlib.Core.Path.{_≡_, ap, _∙_}
 use Prim.Native.Nat.{_+_}
 use Rattle.conversion.specs.code.Answer.{physicalOf}
 use Rattle.conversion.specs.Convert.{physicalValue}
-use Rattle.forms.specs.code.Place.{coordinateLength, unitAt, pointAt}
+use Rattle.block_places.specs.code.Place.{coordinateLength, unitAt, pointAt}
 use Rattle.array.proofs.CoordinateLaws.{physical-x-refused, physical-y-refused, physical-both}
 use borrow.Author.Needs.{needs}
 use Rattle.array.proofs.physical_point.Statement.{statement}

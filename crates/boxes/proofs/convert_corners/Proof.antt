@@ -1,5 +1,5 @@
 -- `boxes::convert_corners` meets its contract: each coordinate of either corner. Assumes nothing.
-use Rattle.forms.specs.code.Place.{pointAt}
+use Rattle.block_places.specs.code.Place.{pointAt}
 use borrow.Author.Needs.{needs}
 use Rattle.boxes.proofs.convert_corners.Statement.{statement}
 use Rattle.boxes.proofs.convert_corners.Tie as tie

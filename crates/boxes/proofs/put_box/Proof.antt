@@ -5,7 +5,7 @@ use mir.Val.{SFits}
 use mir.ValLaws.{toZ-ofZ}
 use Rattle.conversion.specs.code.Fold.{run}
 use Rattle.cell.specs.Write.{writeBox}
-use Rattle.forms.specs.code.Forms.{boxAt}
+use Rattle.block_places.specs.code.Places.{boxAt}
 use Rattle.steps.specs.code.Ready.{stopped, ready}
 use Rattle.steps.proofs.ReadyLaws.{never-stopped, write-ready}
 use Rattle.boxes.specs.code.Box.{boxBytes, boxOf, readyOf}

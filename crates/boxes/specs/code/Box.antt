@@ -20,7 +20,7 @@ use Rattle.stream.specs.Record.{BOX, BOXTYPE, streamBytes}
 use Rattle.stream.specs.Records.{shapeRecords}
 use Rattle.cell.specs.Write.{boxPoints}
 use Rattle.records.specs.code.Bytes.{recordHead, wordRecordLength, xyPointLength}
-use Rattle.forms.specs.declared.BoxPlaces.{BoxPlaces}
+use Rattle.block_places.specs.declared.BoxPlaces.{BoxPlaces}
 use Rattle.coordinate.specs.declared.Pointed.the-variants as P
 use Rattle.coordinate.specs.code.Coordinate.{GivesPoint, both}
 use Rattle.steps.specs.code.Ready.{Ready, stopped, ready}

@@ -1,5 +1,5 @@
 -- `coordinate::convert_point` meets its contract, by the conversions of both coordinates. Assumes nothing.
-use Rattle.forms.specs.code.Place.{pointAt}
+use Rattle.block_places.specs.code.Place.{pointAt}
 use Rattle.coordinate.proofs.ValueLaws.{point-recorded}
 use borrow.Author.Needs.{needs}
 use Rattle.coordinate.proofs.convert_point.Statement.{statement}

@@ -3,7 +3,7 @@ use mathlib.Core.Path.{_≡_}
 use native.Mathlib.Omega.{arith}
 use lib.ListN.{length}
 use borrow.Author.Needs.{needs}
-use Rattle.forms.specs.declared.BodyPlaces.{BodyPlaces}
+use Rattle.block_places.specs.declared.BodyPlaces.{BodyPlaces}
 use Rattle.elements.specs.code.Block.{bodyLength}
 use Rattle.elements.proofs.BodyLaws.{polygon-as, path-as, text-as, node-as, reference-as, box-as}
 use Rattle.elements.proofs.PutLaws.{Room, room-of}

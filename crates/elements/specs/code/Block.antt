@@ -20,9 +20,9 @@ use Rattle.steps.specs.declared.Measured.{Measured}
 use Rattle.steps.specs.declared.Measured.the-variants as M
 use Rattle.steps.specs.declared.Written.{Written}
 use Rattle.steps.specs.code.Steps.{sizing, Writes}
-use Rattle.forms.specs.declared.BodyPlaces.{BodyPlaces}
-use Rattle.forms.specs.declared.BodyPlaces.the-variants as B
-use Rattle.forms.specs.code.Forms.{pathAt}
+use Rattle.block_places.specs.declared.BodyPlaces.{BodyPlaces}
+use Rattle.block_places.specs.declared.BodyPlaces.the-variants as B
+use Rattle.block_places.specs.code.Places.{pathAt}
 use Rattle.polygon_node.specs.code.Shape.{shapeLength}
 use Rattle.boxes.specs.code.Box.{boxLength}
 use Rattle.path.specs.code.Length.{pathLength}

@@ -1,9 +1,7 @@
--- `forms::path` meets its contract: one law for each way out.
--- Assumes nothing.
-use mathlib.Core.Path.{refl}
-use borrow.Author.Needs.{needs}
-use Rattle.forms.proofs.Step.{checked, failed}
+-- `forms::path` meets its contract: one law for each way out. Assumes nothing.
 use Rattle.forms.proofs.PathLaws.{path-short, path-type, path-lengths, path-points, path-is}
+use Rattle.forms.proofs.Step.{checked, failed}
+use borrow.Author.Needs.{needs}
 use Rattle.forms.proofs.path.Statement.{statement}
 use Rattle.forms.proofs.path.Tie as tie
 
@@ -26,11 +24,8 @@ returns-3 c =
     let at-if1 = at-path-type .before in
     path-lengths (at-if1 .before .before .args .b .now) (at-if1 .if1 .left) (checked (at-path-type .path-type .ensures) (at-if2 .if2 .left)) (c .before .lengths .ensures) (c .if3 .taken)
 
-u16-at-requires : tie.Need-u16-at-requires
-u16-at-requires c κs = search needs
-
-cast-count : tie.Need-cast-count
-cast-count c = search needs
+path-places-requires : tie.Need-path-places-requires
+path-places-requires c κs = search needs
 
 points-requires : tie.Need-points-requires
 points-requires c κs = search needs
@@ -38,23 +33,14 @@ points-requires c κs = search needs
 returns-4 : tie.Need-returns-4
 returns-4 c =
     let at-points = c .before in
-    let at-count = at-points .before in
-    let at-if3 = at-count .before in
+    let at-places = at-points .before in
+    let at-if3 = at-places .before in
     let at-lengths = at-if3 .before in
     let at-if2 = at-lengths .before in
     let at-path-type = at-if2 .before in
     let at-if1 = at-path-type .before in
     path-points (at-if1 .before .before .args .b .now) (at-if1 .if1 .left) (checked (at-path-type .path-type .ensures) (at-if2 .if2 .left)) (at-lengths .lengths .ensures) (at-if3 .if3 .left)
-    (at-count .u16-at .result) (at-count .u16-at .ensures) (at-points .points .ensures) (c .if4 .taken)
-
-u16-at-requires-2 : tie.Need-u16-at-requires-2
-u16-at-requires-2 c κs = search needs
-
-u16-at-requires-3 : tie.Need-u16-at-requires-3
-u16-at-requires-3 c κs = search needs
-
-u8-at-requires : tie.Need-u8-at-requires
-u8-at-requires c κs = search needs
+    _ (at-places .path-places .ensures .0) (at-points .points .ensures) (c .if4 .taken)
 
 mul-end : tie.Need-mul-end
 mul-end c = search needs
@@ -64,19 +50,15 @@ add-end c = search needs
 
 returns-5 : tie.Need-returns-5
 returns-5 c =
-    let at-datatype = c .before in
-    let at-layer = at-datatype .before in
-    let at-if4 = at-layer .before in
-    let at-points = at-if4 .before in
-    let at-count = at-points .before in
-    let at-if3 = at-count .before in
+    let at-points = c .before in
+    let at-places = at-points .before in
+    let at-if3 = at-places .before in
     let at-lengths = at-if3 .before in
     let at-if2 = at-lengths .before in
     let at-path-type = at-if2 .before in
     let at-if1 = at-path-type .before in
     path-is (at-if1 .before .before .args .b .now) (at-if1 .if1 .left) (checked (at-path-type .path-type .ensures) (at-if2 .if2 .left)) (at-lengths .lengths .ensures) (at-if3 .if3 .left)
-    (at-count .u16-at .result) (at-count .u16-at .ensures) (at-points .points .ensures) _ (at-if4 .if4 .left)
-    (at-layer .u16-at2 .ensures) (at-datatype .u16-at3 .ensures) (c .u8-at .ensures) refl refl refl refl refl
+    _ (at-places .path-places .ensures .0) (at-points .points .ensures) (c .if4 .left)
 
 pub path-spec : {M : Type 1} → statement M
 path-spec =
@@ -87,13 +69,9 @@ path-spec =
     returns-2
     lengths-requires
     returns-3
-    u16-at-requires
-    cast-count
+    path-places-requires
     points-requires
     returns-4
-    u16-at-requires-2
-    u16-at-requires-3
-    u8-at-requires
     mul-end
     add-end
     returns-5)

@@ -7,7 +7,7 @@ use native.Mathlib.Omega.{arith}
 use lib.ListN.{length-drop}
 use borrow.Author.Needs.{needs}
 use Rattle.sheet.specs.Form.{point}
-use Rattle.forms.specs.code.Place.{pointAt, pointEnd}
+use Rattle.block_places.specs.code.Place.{pointAt, pointEnd}
 use Rattle.forms.proofs.Step.{moved, checked, failed}
 use Rattle.forms.proofs.Sized.{sized-times, sized-point}
 use Rattle.forms.proofs.Walk.{Left, left-start, left-turn, left-ill, left-end}

@@ -7,7 +7,7 @@ use native.Mathlib.Omega.{arith}
 use lib.ListN.{length}
 use borrow.Author.Needs.{needs}
 use Rattle.sheet.specs.Element.{property}
-use Rattle.forms.specs.code.Place.{propertyAt, propertyEnd}
+use Rattle.block_places.specs.code.Place.{propertyAt, propertyEnd}
 use Rattle.forms.proofs.Walk.{Left, left-start, left-turn, left-ill, left-end, left-place}
 use Rattle.forms.proofs.PropertyLaws.{property-is, property-long, property-short, properties-short, properties-ill, properties-long, properties-are}
 use Rattle.forms.proofs.properties.Statement.{statement}

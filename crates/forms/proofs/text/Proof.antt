@@ -1,12 +1,9 @@
--- `forms::text` meets its contract: one law for each way out.
--- Assumes nothing.
-use mathlib.Core.Path.{refl, sym, ap}
-use Prim.Native.Nat.{ℕ}
-use native.Mathlib.Omega.{arith}
-use lib.Dec.{eqb}
-use borrow.Author.Needs.{needs}
-use Rattle.forms.proofs.Step.{checked, failed}
+-- `forms::text` meets its contract: one law for each way out. Assumes nothing.
 use Rattle.forms.proofs.TextLaws.{text-short, text-vertical, text-horizontal, text-reflection, text-origin, text-string, text-is}
+use Rattle.forms.proofs.Step.{checked, failed}
+use native.Mathlib.Omega.{arith}
+use mathlib.Core.Path.{sym}
+use borrow.Author.Needs.{needs}
 use Rattle.forms.proofs.text.Statement.{statement}
 use Rattle.forms.proofs.text.Tie as tie
 
@@ -57,37 +54,15 @@ returns-6 c =
     text-string (c12 .args .b .now) (c10 .if1 .left) (checked (c9 .code .ensures) (c8 .if2 .left)) (checked (c7 .code2 .ensures) (c6 .if3 .left))
     (checked (c5 .code3 .ensures) (c4 .if4 .left)) (checked (c3 .point .ensures) (c2 .if5 .left)) (omega arith)
 
-u16-at-requires : tie.Need-u16-at-requires
-u16-at-requires c κs = search needs
-
-u16-at-requires-2 : tie.Need-u16-at-requires-2
-u16-at-requires-2 c κs = search needs
-
-u8-at-requires : tie.Need-u8-at-requires
-u8-at-requires c κs = search needs
-
-u8-at-requires-2 : tie.Need-u8-at-requires-2
-u8-at-requires-2 c κs = search needs
-
-u8-at-requires-3 : tie.Need-u8-at-requires-3
-u8-at-requires-3 c κs = search needs
-
-double-requires : tie.Need-double-requires
-double-requires c κs = search needs
-
-double-requires-2 : tie.Need-double-requires-2
-double-requires-2 c κs = search needs
+text-places-requires : tie.Need-text-places-requires
+text-places-requires c κs = search needs
 
 returns-7 : tie.Need-returns-7
 returns-7 c =
     let c1 = c .before in let c2 = c1 .before in let c3 = c2 .before in let c4 = c3 .before in let c5 = c4 .before in let c6 = c5 .before in
-    let c7 = c6 .before in let c8 = c7 .before in let c9 = c8 .before in let c10 = c9 .before in let c11 = c10 .before in
-    let c12 = c11 .before in let c13 = c12 .before in let c14 = c13 .before in let c15 = c14 .before in let c16 = c15 .before in
-    let c17 = c16 .before in let c19 = c17 .before .before in
-    text-is (c19 .args .b .now) (c17 .if1 .left) (checked (c16 .code .ensures) (c15 .if2 .left)) (checked (c14 .code2 .ensures) (c13 .if3 .left))
-    (checked (c12 .code3 .ensures) (c11 .if4 .left)) (checked (c10 .point .ensures) (c9 .if5 .left)) _ (c8 .string-end .result) (sym (c8 .string-end .ensures .0)) (c7 .if6 .left)
-    (c6 .u16-at .ensures) (c5 .u16-at2 .ensures) (c4 .u8-at .ensures) (c3 .u8-at2 .ensures) (ap (λ (k : ℕ). eqb k 1) (c2 .u8-at3 .ensures))
-    (c1 .double .ensures) (c .double2 .ensures) refl refl
+    let c7 = c6 .before in let c8 = c7 .before in let c9 = c8 .before in let c10 = c9 .before in let c11 = c10 .before in let c13 = c11 .before .before in
+    text-is (c13 .args .b .now) (c11 .if1 .left) (checked (c10 .code .ensures) (c9 .if2 .left)) (checked (c8 .code2 .ensures) (c7 .if3 .left))
+    (checked (c6 .code3 .ensures) (c5 .if4 .left)) (checked (c4 .point .ensures) (c3 .if5 .left)) _ (c2 .string-end .result) (sym (c2 .string-end .ensures .0)) (c1 .if6 .left) (c .text-places .ensures)
 
 pub text-spec : {M : Type 1} → statement M
 text-spec =
@@ -104,11 +79,5 @@ text-spec =
     returns-5
     string-end-requires
     returns-6
-    u16-at-requires
-    u16-at-requires-2
-    u8-at-requires
-    u8-at-requires-2
-    u8-at-requires-3
-    double-requires
-    double-requires-2
+    text-places-requires
     returns-7)

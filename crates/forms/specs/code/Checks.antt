@@ -9,8 +9,8 @@ use lib.ListN.{length, drop}
 use Rattle.units.specs.declared.Unit as Coordinate
 use Rattle.parsing.specs.Parse.{Part, ill, part, IllFormed, illFormed, present, whole, _>>=_}
 use Rattle.sheet.specs.Form.{Form, counted, coordinate}
-use Rattle.sheet.specs.Element.{Property, Path, Body, property, bodyForm, headOf, elementOf}
-use Rattle.forms.specs.declared.BodyPlaces.{BodyPlaces}
+use Rattle.sheet.specs.Element.{Property, Path, Head, Body, Element, property, bodyForm, headOf, elementOf}
+use Rattle.block_places.specs.declared.BodyPlaces.{BodyPlaces}
 use Rattle.forms.specs.declared.PropertiesForm.{PropertiesForm}
 use Rattle.forms.specs.declared.PropertiesForm.the-variants as P
 use Rattle.forms.specs.declared.BodyForm.{BodyForm}
@@ -19,8 +19,8 @@ use Rattle.forms.specs.declared.HeadForm.{HeadForm}
 use Rattle.forms.specs.declared.HeadForm.the-variants as H
 use Rattle.forms.specs.declared.ElementForm.{ElementForm}
 use Rattle.forms.specs.declared.ElementForm.the-variants as E
-use Rattle.forms.specs.code.Place.{coordinateAt}
-use Rattle.forms.specs.code.Forms.{bodyAt, propertiesAt, headFormAt, elementAt, HeadIn, BodyIn, PropertiesIn, ElementIn}
+use Rattle.block_places.specs.code.Place.{coordinateAt}
+use Rattle.block_places.specs.code.Places.{headAt, bodyAt, propertiesAt, HeadIn, BodyIn, PropertiesIn, ElementIn}
 
 -- a coordinate that is not absent
 abbrev pub given : Form Coordinate.Unit
@@ -68,6 +68,15 @@ pub record BodyRead (k : ℕ) (b : List ℕ) (r : BodyForm) : Type 0 where
   pub places : BodyFormIn b r
 
 -- ---- whole blocks
+
+-- what the places tell; nothing where the block is ill-formed
+abbrev pub headFormAt : List ℕ → HeadForm → Option Head
+headFormAt b H.Ill = none
+headFormAt b (H.Head s) = some (headAt b s)
+
+abbrev pub elementAt : List ℕ → ElementForm → Option Element
+elementAt b E.Ill = none
+elementAt b (E.Element s q) = some (record { body = bodyAt b s; properties = propertiesAt b q })
 
 abbrev pub HeadFormIn : List ℕ → HeadForm → Type 0
 HeadFormIn b H.Ill = T true

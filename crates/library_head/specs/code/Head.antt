@@ -13,7 +13,7 @@ use Rattle.conversion.specs.Made.{Made, refused, pure, need, _>>_}
 use Rattle.sheet.specs.Library.{LibraryHead, libraryHeadOf}
 use Rattle.stream.specs.Strings.{padded}
 use Rattle.stream.specs.Library.{FileHead, fileHeadBytes}
-use Rattle.forms.specs.code.Place.{wordsFrom, stringAt, stringEnd, doubleAt, stampNumbers, stampsLength}
+use Rattle.block_places.specs.code.Place.{wordsFrom, stringAt, stringEnd, doubleAt, stampNumbers, stampsLength}
 use Rattle.cell.specs.Stamps.{stampsFit}
 use Rattle.library.specs.Library.{maxLibraryNameLength, fileHeadFor, fileHeadOf}
 use Rattle.library_head.specs.declared.HeadForm.{HeadForm}

@@ -3,7 +3,7 @@ use mathlib.Core.Path.{_≡_, sym, ap, _∙_}
 use Prim.Native.Nat.{ℕ}
 use lib.ListN.{length}
 use Rattle.cell.specs.Limits.{minPathPoints, maxPoints}
-use Rattle.forms.specs.code.Forms.{pathAt}
+use Rattle.block_places.specs.code.Places.{pathAt}
 use Rattle.validation.specs.code.Check.{checkOf, shapeChecks}
 use Rattle.points.proofs.WalkLaws.{length-from}
 use Rattle.path.proofs.FrontLaws.{checks-stop, checks-pass}

@@ -5,8 +5,8 @@ use mir.Syntax.{w32}
 use mir.Val.{SFits}
 use mir.ValLaws.{toZ-ofZ}
 use Rattle.cell.specs.Write.{isSome}
-use Rattle.forms.specs.code.Place.{coordinateAt}
-use Rattle.forms.specs.code.Forms.{pathAt}
+use Rattle.block_places.specs.code.Place.{coordinateAt}
+use Rattle.block_places.specs.code.Places.{pathAt}
 use Rattle.path.specs.code.Front.{LengthFits}
 use Rattle.path.proofs.FrontLaws.{width-stops, begin-stops, end-stops, all-there}
 use borrow.Author.Needs.{needs}

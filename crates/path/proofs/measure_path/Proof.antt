@@ -4,7 +4,7 @@ use mathlib.Core.Bool.{Bool}
 use Prim.Native.Nat.{ℕ, _+_, _*_}
 use native.Mathlib.Omega.{arith}
 use borrow.Author.Needs.{needs}
-use Rattle.forms.specs.code.Forms.{pathAt}
+use Rattle.block_places.specs.code.Places.{pathAt}
 use Rattle.points.proofs.WalkLaws.{length-from}
 use Rattle.path.specs.code.Length.{headLength}
 use Rattle.path.proofs.PathLaws.{front-known, measure-refused, path-measured}

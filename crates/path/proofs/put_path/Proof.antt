@@ -2,7 +2,7 @@
 use mathlib.Core.Path.{sym}
 use native.Mathlib.Omega.{arith}
 use borrow.Author.Needs.{needs}
-use Rattle.forms.specs.code.Forms.{pathAt}
+use Rattle.block_places.specs.code.Places.{pathAt}
 use Rattle.points.proofs.WalkLaws.{length-from}
 use Rattle.path.specs.code.Front.{writeFront, GivesExtent}
 use Rattle.path.proofs.FrontLaws.{points-succeed, front-past, front-never}

@@ -1,7 +1,7 @@
 -- `polygon_node::put_polygon` meets its contract: the head, then the points. Assumes nothing.
 use Rattle.stream.specs.Record.{BOUNDARY, DATATYPE}
 use Rattle.cell.specs.Write.{writePolygon}
-use Rattle.forms.specs.code.Forms.{shapeAt}
+use Rattle.block_places.specs.code.Places.{shapeAt}
 use Rattle.polygon_node.proofs.PolygonLaws.{Ready, polygon-ready, points-follow, shape-written}
 use borrow.Author.Needs.{needs}
 use Rattle.polygon_node.proofs.put_polygon.Statement.{statement}

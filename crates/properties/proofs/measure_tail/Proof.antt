@@ -9,7 +9,7 @@ use Rattle.conversion.specs.declared.Entry.{Entry}
 use Rattle.conversion.specs.code.Fold.{run}
 use Rattle.conversion.proofs.FoldLaws.{run-same}
 use Rattle.cell.specs.Write.{writeProperties}
-use Rattle.forms.specs.code.Place.{placeFrom, propertyEnd, propertiesFrom}
+use Rattle.block_places.specs.code.Place.{placeFrom, propertyEnd, propertiesFrom}
 use Rattle.steps.specs.declared.Measured.{Measured}
 use Rattle.steps.specs.declared.Measured.the-variants as M
 use Rattle.steps.specs.code.Steps.{sizing}

@@ -9,8 +9,8 @@ use Rattle.conversion.specs.declared.Entry.{Entry}
 use Rattle.conversion.specs.code.Fold.{run}
 use Rattle.conversion.proofs.FoldLaws.{run-same}
 use Rattle.cell.specs.Write.{writeProperties}
-use Rattle.forms.specs.code.Place.{placeFrom, propertyEnd, propertiesFrom}
-use Rattle.forms.specs.code.Forms.{propertiesAt}
+use Rattle.block_places.specs.code.Place.{placeFrom, propertyEnd, propertiesFrom}
+use Rattle.block_places.specs.code.Places.{propertiesAt}
 use Rattle.steps.specs.code.Steps.{Succeeds}
 use Rattle.steps.proofs.StepLaws.{Outcome, stopped, putting, writes}
 use Rattle.properties.specs.code.Tail.{tailBytes, tailLength}

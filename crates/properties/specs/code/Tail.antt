@@ -7,7 +7,7 @@ use Rattle.stream.specs.Strings.{padded}
 use Rattle.stream.specs.Structure as D
 use Rattle.stream.specs.Record.{PROPATTR, PROPVALUE, recordBytes, streamBytes}
 use Rattle.stream.specs.Records.{wordRecord, stringRecord, tailRecords}
-use Rattle.forms.specs.code.Place.{propertyEnd}
+use Rattle.block_places.specs.code.Place.{propertyEnd}
 
 -- what the records say of a property whose value is not too long
 abbrev pub said : S.Property → D.Property

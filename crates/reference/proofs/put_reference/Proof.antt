@@ -7,7 +7,7 @@ use mir.Syntax.{w32}
 use mir.Val.{SFits}
 use mir.ValLaws.{toZ-ofZ}
 use Rattle.cell.specs.Write.{writeReference}
-use Rattle.forms.specs.code.Forms.{referenceAt}
+use Rattle.block_places.specs.code.Places.{referenceAt}
 use Rattle.steps.proofs.ReadyLaws.{write-ready}
 use Rattle.reference.specs.code.Reference.{referenceBytes, readyOf, Fine, GivesReference, srefOf, arefOf}
 use Rattle.reference.proofs.ValueLaws.{reference-bounded, reference-past, reference-never}

@@ -1,6 +1,6 @@
 -- `reference::reference_values` meets its contract: the checks, and then what follows them. Assumes nothing.
 use mathlib.Core.Path.{_≡_, subst}
-use Rattle.forms.specs.code.Forms.{referenceAt}
+use Rattle.block_places.specs.code.Places.{referenceAt}
 use Rattle.validation.specs.declared.Check.{Check}
 use Rattle.reference.specs.code.Reference.{guarded, guardedBy, BoundedBy}
 use Rattle.reference.proofs.ValueLaws.{checks-stop, checks-pass}

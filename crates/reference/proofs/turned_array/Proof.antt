@@ -1,7 +1,7 @@
 -- `reference::turned_array` meets its contract: sine and cosine, and then the array. Assumes nothing.
 use mathlib.Core.Path.{_∙_}
 use borrow.Author.Tests.{not-true, not-false}
-use Rattle.forms.specs.code.Forms.{referenceAt}
+use Rattle.block_places.specs.code.Places.{referenceAt}
 use Rattle.array.specs.declared.Array.the-variants as A
 use Rattle.array.specs.code.Corners.{cornered}
 use Rattle.reference.proofs.ValueLaws.{sine-stops, cosine-stops, turned-on}

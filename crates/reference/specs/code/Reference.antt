@@ -24,8 +24,8 @@ use Rattle.stream.specs.Records.{bodyRecords}
 use Rattle.cell.specs.Limits.{within, maxNameLength, maxColRow}
 use Rattle.cell.specs.Names.{isName}
 use Rattle.cell.specs.Write.{isSome, single, inUnit, writeTransform, writeSref, writeAref}
-use Rattle.forms.specs.declared.ReferencePlaces.{ReferencePlaces}
-use Rattle.forms.specs.code.Place.{spacingAt, stringAt}
+use Rattle.block_places.specs.declared.ReferencePlaces.{ReferencePlaces}
+use Rattle.block_places.specs.code.Place.{spacingAt, stringAt}
 use Rattle.transform.specs.declared.Strans.{Strans}
 use Rattle.transform.specs.code.Strans.{saidOf, stransBytes, stransLength, transformLength}
 use Rattle.steps.specs.code.Ready.{Ready, stopped, ready}

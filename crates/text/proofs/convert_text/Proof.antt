@@ -4,7 +4,7 @@ use lib.IntN.{ℤ}
 use mir.Syntax.{w32}
 use mir.Val.{SFits}
 use mir.ValLaws.{toZ-ofZ}
-use Rattle.forms.specs.code.Forms.{textAt}
+use Rattle.block_places.specs.code.Places.{textAt}
 use Rattle.transform.specs.code.Strans.{saidOf, transformOf}
 use Rattle.steps.specs.code.Ready.{stopped, ready}
 use Rattle.text.specs.code.Text.{SaidText, textOf}

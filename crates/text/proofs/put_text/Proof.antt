@@ -7,7 +7,7 @@ use mir.Val.{SFits}
 use mir.ValLaws.{toZ-ofZ}
 use Rattle.conversion.specs.code.Fold.{run}
 use Rattle.cell.specs.Write.{writeText}
-use Rattle.forms.specs.code.Forms.{textAt}
+use Rattle.block_places.specs.code.Places.{textAt}
 use Rattle.steps.specs.code.Ready.{stopped, ready}
 use Rattle.steps.proofs.ReadyLaws.{never-stopped, write-ready}
 use Rattle.text.specs.code.Text.{textBytes, textOf, readyOf}

@@ -4,7 +4,7 @@ use lib.Dec.{leb}
 use borrow.Author.Tests.{le-leb, lt-leb, not-true, not-false}
 use Prim.Native.Nat.{ℕ}
 use Rattle.cell.specs.Limits.{maxStringLength}
-use Rattle.forms.specs.code.Forms.{textAt}
+use Rattle.block_places.specs.code.Places.{textAt}
 use Rattle.steps.specs.code.Ready.{stopped, ready}
 use Rattle.text.proofs.TextLaws.{text-layer, text-string, text-checked, string-long}
 use borrow.Author.Needs.{needs}

@@ -15,8 +15,8 @@ use Rattle.stream.specs.Structure as D
 use Rattle.stream.specs.Record.{streamBytes}
 use Rattle.stream.specs.Records.{textRecords}
 use Rattle.cell.specs.Write.{writeTransform}
-use Rattle.forms.specs.declared.TextPlaces.{TextPlaces}
-use Rattle.forms.specs.code.Place.{stringAt}
+use Rattle.block_places.specs.declared.TextPlaces.{TextPlaces}
+use Rattle.block_places.specs.code.Place.{stringAt}
 use Rattle.transform.specs.declared.Strans.{Strans}
 use Rattle.transform.specs.code.Strans.{saidOf, transformLength}
 use Rattle.steps.specs.code.Ready.{Ready, stopped, ready}

@@ -7,7 +7,7 @@ use lib.Dec.{eqb}
 use borrow.Author.Needs.{needs}
 use borrow.Author.Tests.{eq-eqb, ne-eqb}
 use Rattle.cell.specs.Stamps.{allZero}
-use Rattle.forms.specs.code.Place.{wordsFrom}
+use Rattle.block_places.specs.code.Place.{wordsFrom}
 use Rattle.validation.proofs.StampLaws.{zero-start, zero-turn, zero-end}
 use Rattle.validation.proofs.all_zero.Statement.{statement}
 use Rattle.validation.proofs.all_zero.Tie as tie
