@@ -36,6 +36,20 @@ use Rattle.points.specs.declared.Walked.the-variants as W
 use Rattle.points.specs.code.Walk.{through, walked}
 use Rattle.points.specs.code.Integers.{integerAt, integersAt, integersFrom, InUnit, Passes, AllPass}
 
+-- ---- k points further: the place in the block, and the place in the list
+
+pub place-none : (at : ℕ) → at ≡ at + 34 * 0
+place-none at = omega arith
+
+pub place-next : (at k : ℕ) → at + 34 + 34 * k ≡ at + 34 * suc k
+place-next at k = omega arith
+
+pub number-none : (p : ℕ) → p ≡ p + 0
+number-none p = omega arith
+
+pub number-next : (p k : ℕ) → suc p + k ≡ p + suc k
+number-next p k = omega arith
+
 -- ---- a coordinate, by the bits of its unit
 
 -- only a NaN differs from itself
@@ -53,7 +67,7 @@ module _ (d : Float) (F : T (fits binary64 d)) (N : ne d d ≡ false) (b : List 
 -- ---- one point more that passes
 
 module _ (b : List ℕ) where
-  pub all-more : (d : Float) (i from at : ℕ) → at ≡ from + 34 * i → AllPass d b i from → Passes d b at → Passes d b (at + 17) → AllPass d b (suc i) from
+  all-more : (d : Float) (i from at : ℕ) → at ≡ from + 34 * i → AllPass d b i from → Passes d b at → Passes d b (at + 17) → AllPass d b (suc i) from
   all-more d zero from at e h x y =
       let f : at ≡ from = omega arith in
       (subst (Passes d b) f x, subst (λ (k : ℕ). Passes d b (k + 17)) f y, tt)
@@ -104,39 +118,21 @@ module _ (policy : GdsRoundingPolicy) (d : Float) (b : List ℕ) where
         → run stop e (writePoints policy d p (pointsFrom (k + m) b at)) g
         ≡ run stop e (writePoints policy d (p + k) (pointsFrom m b (at + 34 * k))) (λ qs e′. g (integersFrom k b at ++ qs) e′)
     unfolding valuesFrom
-    run-passing zero m p at g h = ap₂ (λ (j : ℕ) (ps : List (Point Unit)). run stop e (writePoints policy d j ps) g) (none p) (ap₂ (λ (j k : ℕ). pointsFrom j b k) (zero-add m) (place at))
-      where
-        none : (p : ℕ) → p ≡ p + 0
-        none p = omega arith
-
-        place : (at : ℕ) → at ≡ at + 34 * 0
-        place at = omega arith
+    run-passing zero m p at g h = ap₂ (λ (j : ℕ) (ps : List (Point Unit)). run stop e (writePoints policy d j ps) g) (number-none p) (ap₂ (λ (j k : ℕ). pointsFrom j b k) (zero-add m) (place-none at))
     run-passing (suc k) m p at g h =
         ap (λ (j : ℕ). run stop e (writePoints policy d p (pointsFrom j b at)) g) (suc-add k m)
         ∙ turn stop policy d e p (pointAt b at) (pointsFrom (k + m) b (at + 34)) g
         ∙ ap (λ (w : Made (Point ℤ)). run stop e w (others stop policy d e p (pointAt b at) (pointsFrom (k + m) b (at + 34)) g)) (point-pure 0 p at (h .0) (h .1))
         ∙ run-pure stop e (integersAt b at) (others stop policy d e p (pointAt b at) (pointsFrom (k + m) b (at + 34)) g)
         ∙ run-passing k m (suc p) (at + 34) (λ qs e′. g (integersAt b at ∷ qs) e′) (h .2)
-        ∙ ap₂ (λ (j l : ℕ). run stop e (writePoints policy d j (pointsFrom m b l)) (λ qs e′. g (integersAt b at ∷ (integersFrom k b (at + 34) ++ qs)) e′)) (number p k) (place at k)
-      where
-        number : (p k : ℕ) → suc p + k ≡ p + suc k
-        number p k = omega arith
-
-        place : (at k : ℕ) → at + 34 + 34 * k ≡ at + 34 * suc k
-        place at k = omega arith
+        ∙ ap₂ (λ (j l : ℕ). run stop e (writePoints policy d j (pointsFrom m b l)) (λ qs e′. g (integersAt b at ∷ (integersFrom k b (at + 34) ++ qs)) e′)) (number-next p k) (place-next at k)
 
 -- ---- the ends
 
 last-is : (b : List ℕ) (m at : ℕ) → lastOf (integersAt b at) (integersFrom m b (at + 34)) ≡ integersAt b (at + 34 * m)
 unfolding valuesFrom
-last-is b zero at = ap (integersAt b) (go at)
-  where
-    go : (at : ℕ) → at ≡ at + 34 * 0
-    go at = omega arith
-last-is b (suc m) at = last-is b m (at + 34) ∙ ap (integersAt b) (go at m)
-  where
-    go : (at m : ℕ) → at + 34 + 34 * m ≡ at + 34 * suc m
-    go at m = omega arith
+last-is b zero at = ap (integersAt b) (place-none at)
+last-is b (suc m) at = last-is b m (at + 34) ∙ ap (integersAt b) (place-next at m)
 
 -- the numbers are what the machine reads back of the integers
 pub ends-are : (b : List ℕ) (n from last : ℕ) (e : Entry) (x0 y0 x1 y1 : ℤ) → 1 ≤ n → last ≡ from + 34 * (n - 1)

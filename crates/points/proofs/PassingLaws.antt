@@ -28,7 +28,7 @@ use Rattle.points.specs.declared.Walked.the-variants as W
 use Rattle.points.specs.code.Walk.{restFrom, through, walked}
 use Rattle.points.specs.code.Integers.{integersFrom, AllPass}
 use Rattle.points.proofs.WalkLaws.{length-from, run-counted}
-use Rattle.points.proofs.IntegerLaws.{run-passing}
+use Rattle.points.proofs.IntegerLaws.{place-none, place-next, number-none, number-next, run-passing}
 
 -- ---- where the rest begins
 
@@ -107,28 +107,16 @@ rest-succeeds policy d b n k m from at l f g =
     together : (n k : ℕ) → m + k ≡ n → n ≡ k + m
     together n k l = omega arith
 
-    none : (p : ℕ) → p ≡ p + 0
-    none p = omega arith
-
-    start : (from : ℕ) → from ≡ from + 34 * 0
-    start from = omega arith
-
-    number : (p k : ℕ) → suc p + k ≡ p + suc k
-    number p k = omega arith
-
-    place : (from k : ℕ) → from + 34 + 34 * k ≡ from + 34 * suc k
-    place from k = omega arith
-
     go : (k p from : ℕ) → Succeeds (writePoints policy d p (pointsFrom (k + m) b from)) → Succeeds (writePoints policy d (p + k) (pointsFrom m b (from + 34 * k)))
     go zero p from g =
-        subst (λ (j : ℕ). Succeeds (writePoints policy d (p + 0) (pointsFrom m b j))) (start from)
-        (subst (λ (j : ℕ). Succeeds (writePoints policy d j (pointsFrom m b from))) (none p)
+        subst (λ (j : ℕ). Succeeds (writePoints policy d (p + 0) (pointsFrom m b j))) (place-none from)
+        (subst (λ (j : ℕ). Succeeds (writePoints policy d j (pointsFrom m b from))) (number-none p)
         (subst (λ (j : ℕ). Succeeds (writePoints policy d p (pointsFrom j b from))) (zero-add m) g))
     go (suc k) p from g =
         let a = steps (yields (subst (λ (j : ℕ). Succeeds (writePoints policy d p (pointsFrom j b from))) (suc-add k m) g)) in
         let rest = go k (suc p) (from + 34) (succeeds (steps (a .then) .first)) in
-        subst (λ (j : ℕ). Succeeds (writePoints policy d (p + suc k) (pointsFrom m b j))) (place from k)
-        (subst (λ (j : ℕ). Succeeds (writePoints policy d j (pointsFrom m b (from + 34 + 34 * k)))) (number p k) rest)
+        subst (λ (j : ℕ). Succeeds (writePoints policy d (p + suc k) (pointsFrom m b j))) (place-next from k)
+        (subst (λ (j : ℕ). Succeeds (writePoints policy d j (pointsFrom m b (from + 34 + 34 * k)))) (number-next p k) rest)
 
 -- ---- measured
 
