@@ -1,7 +1,7 @@
 -- What a well-formed block holds stands at the places that its own numbers tell: for code that reads a block whose form was checked before. Assumes nothing.
 use mathlib.Core.Path.{_≡_, refl, sym, _∙_, subst}
 use mathlib.Core.Bool.{Bool, true, false, cond}
-use mathlib.Core.Option.{Option, none, some}
+use mathlib.Core.Option.{Option, none, some, Option·none-ne-some}
 use mathlib.Core.List.{List}
 use Prim.Native.Nat.{ℕ, zero, suc, _+_, _*_, _≤_, _<_}
 use native.Mathlib.Omega.{arith}
@@ -245,9 +245,6 @@ module _ (b : List ℕ) where
     pub read : ElementRead b (E.Element (elementPlaces b .body) (elementPlaces b .properties))
     pub room : end + 2 ≤ length b
 
-  no-some : {A : Type 0} {e : Element} → none ≡ some e → A
-  no-some e = let z : _≡_ {A = ℕ} 0 1 = cc in absurd (omega arith)
-
   pub element-held : (e : Element) → elementOf b ≡ some e → Held
   unfolding elementOf elementPlaces
   element-held e h = form (elementForm b) refl h
@@ -261,8 +258,8 @@ module _ (b : List ℕ) where
           let after = place-after propertyEnd b (λ k. omega arith) (numberAt 2 b end) (end + 2) in
           let room : end + 2 ≤ length b = omega arith in
           record { read = record { form = ends b _ last (t .is) l; places = record { body-in = body-in (omega arith); properties-in = record { first-in = room; last-in = l } } }; room = room }
-      to-the-end t false q = no-some (sym (ends-not b _ last (t .is) (less last (length b) (t .within) (eqb-false _ _ q))) ∙ h)
+      to-the-end t false q = absurd (Option·none-ne-some e (sym (ends-not b _ last (t .is) (less last (length b) (t .within) (eqb-false _ _ q))) ∙ h))
 
       form : (z : Part IllFormed ℕ Element) → elementForm b ≡ z → ended z ≡ some e → Held
-      form (ill c) d f = no-some f
+      form (ill c) d f = absurd (Option·none-ne-some e f)
       form (part x r) d f = to-the-end (stands-element (omega arith) x r d) (eqb last (length b)) refl

@@ -4,7 +4,7 @@ use mathlib.Core.Bool.{true, false}
 use mathlib.Core.Option.{some}
 use mathlib.Core.List.{List, [], _∷_, _++_, append-nil}
 use Prim.Native.Nat.{ℕ, zero, suc, _+_, _-_, _*_, _≤_}
-use native.Mathlib.Nat.{zero-add, suc-add}
+use native.Mathlib.Nat.{add-zero, zero-add, suc-add}
 use native.Mathlib.Numerals.{add-one}
 use native.Mathlib.Omega.{arith}
 use lib.Dec.{T}
@@ -38,16 +38,13 @@ use Rattle.points.specs.code.Integers.{integerAt, integersAt, integersFr
 
 -- ---- k points further: the place in the block, and the place in the list
 
-pub place-none : (at : ℕ) → at ≡ at + 34 * 0
+place-none : (at : ℕ) → at ≡ at + 34 * 0
 place-none at = omega arith
 
 pub place-next : (at k : ℕ) → at + 34 + 34 * k ≡ at + 34 * suc k
 place-next at k = omega arith
 
-pub number-none : (p : ℕ) → p ≡ p + 0
-number-none p = omega arith
-
-pub number-next : (p k : ℕ) → suc p + k ≡ p + suc k
+number-next : (p k : ℕ) → suc p + k ≡ p + suc k
 number-next p k = omega arith
 
 -- ---- a coordinate, by the bits of its unit
@@ -118,7 +115,7 @@ module _ (policy : GdsRoundingPolicy) (d : Float) (b : List ℕ) where
         → run stop e (writePoints policy d p (pointsFrom (k + m) b at)) g
         ≡ run stop e (writePoints policy d (p + k) (pointsFrom m b (at + 34 * k))) (λ qs e′. g (integersFrom k b at ++ qs) e′)
     unfolding valuesFrom
-    run-passing zero m p at g h = ap₂ (λ (j : ℕ) (ps : List (Point Unit)). run stop e (writePoints policy d j ps) g) (number-none p) (ap₂ (λ (j k : ℕ). pointsFrom j b k) (zero-add m) (place-none at))
+    run-passing zero m p at g h = ap₂ (λ (j : ℕ) (ps : List (Point Unit)). run stop e (writePoints policy d j ps) g) (sym (add-zero p)) (ap₂ (λ (j k : ℕ). pointsFrom j b k) (zero-add m) (place-none at))
     run-passing (suc k) m p at g h =
         ap (λ (j : ℕ). run stop e (writePoints policy d p (pointsFrom j b at)) g) (suc-add k m)
         ∙ turn stop policy d e p (pointAt b at) (pointsFrom (k + m) b (at + 34)) g

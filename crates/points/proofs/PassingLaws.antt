@@ -1,8 +1,10 @@
 -- A list whose first points pass: measured and written, they stand in front of the rest. Assumes nothing.
 use mathlib.Core.Path.{_≡_, refl, sym, ap, ap₂, _∙_, subst}
+use mathlib.Core.Bool.{true, false}
 use mathlib.Core.List.{List, [], _∷_, _++_, append-nil}
 use Prim.Native.Nat.{ℕ, zero, suc, _+_, _-_, _*_, _≤_}
-use native.Mathlib.Nat.{zero-add, suc-add}
+use native.Mathlib.Nat.{zero-add}
+use native.Mathlib.Numerals.{one-add}
 use native.Mathlib.Omega.{arith}
 use lib.ListN.{length, length-append}
 use lib.IntN.{ℤ}
@@ -17,18 +19,17 @@ use Rattle.conversion.specs.declared.GdsRoundingPolicy.{GdsRoundingPolicy}
 use Rattle.conversion.specs.code.Fold.{run}
 use Rattle.conversion.specs.Points.{writePoints}
 use Rattle.conversion.proofs.FoldLaws.{run-pure, run-same}
-use Rattle.conversion.proofs.MadeLaws.{steps}
 use Rattle.stream.specs.Records.{pointBytes, pointsBytes}
 use Rattle.cell.specs.Write.{lastOf}
 use Rattle.steps.specs.declared.Written.{Written}
 use Rattle.steps.specs.code.Steps.{Succeeds, Writes}
-use Rattle.steps.proofs.StepLaws.{yields, succeeds, stopped, written, putting, writes, outcome-of}
+use Rattle.steps.proofs.StepLaws.{succeeds-as, stopped, written, putting, writes, outcome-of}
 use Rattle.block_places.specs.code.Place.{valuesFrom, pointsFrom}
 use Rattle.points.specs.declared.Walked.the-variants as W
 use Rattle.points.specs.code.Walk.{restFrom, through, walked}
 use Rattle.points.specs.code.Integers.{integersFrom, AllPass}
 use Rattle.points.proofs.WalkLaws.{length-from, run-counted}
-use Rattle.points.proofs.IntegerLaws.{place-none, place-next, number-none, number-next, run-passing}
+use Rattle.points.proofs.IntegerLaws.{place-next, run-passing}
 
 -- ---- where the rest begins
 
@@ -95,28 +96,9 @@ module _ (policy : GdsRoundingPolicy) (d : Float) (b : List ℕ) (n k m from at 
       ∙ outcome-of pointsBytes e (writePoints policy d k (pointsFrom m b at)) to cur last v)
       (omega arith)
 
--- no point that is left is refused, where none is
-pub rest-succeeds : (policy : GdsRoundingPolicy) (d : Float) (b : List ℕ) (n k m from at : ℕ) → m + k ≡ n → at ≡ from + 34 * k → Succeeds (writePoints policy d 0 (pointsFrom n b from))
-    → Succeeds (writePoints policy d k (pointsFrom m b at))
-unfolding writePoints valuesFrom
-rest-succeeds policy d b n k m from at l f g =
-    subst (λ (j : ℕ). Succeeds (writePoints policy d k (pointsFrom m b j))) (sym f)
-    (subst (λ (j : ℕ). Succeeds (writePoints policy d j (pointsFrom m b (from + 34 * k)))) (zero-add k)
-    (go k 0 from (subst (λ (j : ℕ). Succeeds (writePoints policy d 0 (pointsFrom j b from))) (together n k l) g)))
-  where
-    together : (n k : ℕ) → m + k ≡ n → n ≡ k + m
-    together n k l = omega arith
-
-    go : (k p from : ℕ) → Succeeds (writePoints policy d p (pointsFrom (k + m) b from)) → Succeeds (writePoints policy d (p + k) (pointsFrom m b (from + 34 * k)))
-    go zero p from g =
-        subst (λ (j : ℕ). Succeeds (writePoints policy d (p + 0) (pointsFrom m b j))) (place-none from)
-        (subst (λ (j : ℕ). Succeeds (writePoints policy d j (pointsFrom m b from))) (number-none p)
-        (subst (λ (j : ℕ). Succeeds (writePoints policy d p (pointsFrom j b from))) (zero-add m) g))
-    go (suc k) p from g =
-        let a = steps (yields (subst (λ (j : ℕ). Succeeds (writePoints policy d p (pointsFrom j b from))) (suc-add k m) g)) in
-        let rest = go k (suc p) (from + 34) (succeeds (steps (a .then) .first)) in
-        subst (λ (j : ℕ). Succeeds (writePoints policy d (p + suc k) (pointsFrom m b j))) (place-next from k)
-        (subst (λ (j : ℕ). Succeeds (writePoints policy d j (pointsFrom m b (from + 34 + 34 * k)))) (number-next p k) rest)
+  -- no point that is left is refused, where none is
+  pub rest-succeeds : Succeeds (writePoints policy d 0 (pointsFrom n b from)) → Succeeds (writePoints policy d k (pointsFrom m b at))
+  rest-succeeds g = subst (λ (j : ℕ). Succeeds (writePoints policy d j (pointsFrom m b at))) (zero-add k) (succeeds-as e (after (λ x. false) 0 (λ qs e′. true)) g)
 
 -- ---- measured
 
@@ -147,18 +129,12 @@ rest-measured policy d b n zero m from at x l f h e q = ap₂ (λ (j k : ℕ). r
     place : (from at : ℕ) → at ≡ from + 34 * 1 → from + 34 ≡ at
     place from at f = omega arith
 rest-measured policy d b n (suc k) m from at x l f h e q =
-    after policy d b (n - 1) k m (from + 34) at (count n k m l) (place from k at f) (h .2) e W.Refused 1 (through q q)
+    after policy d b (n - 1) k m (from + 34) at (count n k m l) (f ∙ sym (place-next from k)) (h .2) e W.Refused 1 (through q q)
     ∙ run-counted W.Refused policy d (1 + k) (pointsFrom m b at) e _ (through q q) last
-    ∙ ap (λ (j : ℕ). run W.Refused e (writePoints policy d j (pointsFrom m b at)) (through q q)) (next k)
+    ∙ ap (λ (j : ℕ). run W.Refused e (writePoints policy d j (pointsFrom m b at)) (through q q)) (one-add k)
   where
     count : (n k m : ℕ) → m + suc k ≡ n → m + k ≡ n - 1
     count n k m l = omega arith
-
-    place : (from k at : ℕ) → at ≡ from + 34 * suc k → at ≡ from + 34 + 34 * k
-    place from k at f = omega arith
-
-    next : (k : ℕ) → 1 + k ≡ suc k
-    next k = omega arith
 
     some-left : (n k m : ℕ) → (suc k ≡ n → ⊥) → m + suc k ≡ n → 1 ≤ m
     some-left n k m x l = omega arith

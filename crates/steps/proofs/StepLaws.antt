@@ -86,6 +86,15 @@ succeeds {a = a} y = record { value = a; deviations = y .log; makes = y .is }
 pub never-refused : {A : Type 0} {X : Type 0} {m : Made A} {x : Refusal} → Succeeds m → m ≡ refused x → X
 never-refused s h = let g = s .makes in let z : _≡_ {A = ℕ} 0 1 = cc in absurd (omega arith)
 
+-- a step that is refused exactly where another is
+pub succeeds-as : {A B : Type 0} {m : Made A} {n : Made B} (e : Entry) → run (λ x. false) e m (λ a e′. true) ≡ run (λ x. false) e n (λ b e′. true) → Succeeds m → Succeeds n
+unfolding run
+succeeds-as {A} {B} {m} {n} e h s = go n (sym (ap (λ (o : Made A). run (λ x. false) e o (λ a e′. true)) (s .makes)) ∙ h)
+  where
+    go : (n : Made B) → true ≡ run (λ x. false) e n (λ b e′. true) → Succeeds n
+    go (refused x) h = let z : _≡_ {A = ℕ} 0 1 = cc in absurd (omega arith)
+    go (made b ws) h = record { value = b; deviations = ws; makes = refl }
+
 -- a check in front of a step that succeeds has passed
 pub past-check : {A : Type 0} (t : Bool) (x : Refusal) (m : Made A) → Succeeds (need t x >> m) → need t x >> m ≡ m
 past-check true x m s = need-on true x m refl

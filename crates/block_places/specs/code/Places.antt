@@ -146,7 +146,7 @@ referencePlaces b p =
 unfoldable pub boxPlaces : List ℕ → BoxPlaces
 boxPlaces b = record { layer = numberAt 2 b 1; boxtype = numberAt 2 b 3; first = 5; second = 39 }
 
--- by the kind byte; of a block whose kind is none of the six this says nothing
+-- by the kind byte: a box for what is left, of which a well-formed block has 6 alone
 unfoldable pub bodyPlaces : List ℕ → BodyPlaces
 bodyPlaces b =
     cond (eqb (numberAt 1 b 0) polygonKind) (B.Polygon (shapePlaces b))

@@ -30,7 +30,7 @@ put-rest-requires c κs =
     let count = r .0 in
     let place = r .1 in
     let l = length-at (u .wrote) in
-    (omega arith, (omega arith, (rest-succeeds (a .converter .policy) (a .converter .d) (a .b .now) (a .count) _ _ (a .place) _ count place (p .1 .1 .0), (omega arith, omega arith))))
+    (omega arith, (omega arith, (rest-succeeds (a .converter .policy) (a .converter .d) (a .b .now) (a .count) _ _ (a .place) _ count place (u .passing .pass) (a .front .entry) (p .1 .1 .0), (omega arith, omega arith))))
 
 same-length : tie.Need-same-length
 same-length c = search needs
