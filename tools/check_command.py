@@ -5,9 +5,9 @@
 
 Wrong uses and bad files get one message and their status; files are written whole or not at all, and a refusal leaves
 them as they were; cells up to the writer's limit are written; texts and sheets, the program's input, streams, reports,
-pictures, boxes, bounds and surveys go through. Of the cells and libraries in files of cases (tools/case_files.py has their form)
-each report entry must be shown with the magnitude and the side of its error, and each refusal about a coordinate must name the
-coordinate. The last line counts; the exit status is 0 if nothing was wrong.
+pictures, boxes, flags and plex numbers, bounds and surveys go through. Of the cells and libraries in files of cases
+(tools/case_files.py has their form) each report entry must be shown with the magnitude and the side of its error, and each
+refusal about a coordinate must name the coordinate. The last line counts; the exit status is 0 if nothing was wrong.
 """
 import contextlib
 import errno
@@ -45,6 +45,14 @@ DIE = (DIE_FRONT + "0000000100000002" "0000000000000002" "0000000000000000" "000
        "00042d0000060d0200eb00062e020001002c1003" "0000000000000000" "0000001e00000000" "0000001e00000014" "0000000000000014" "0000000000000000"
        "00062b020001" "000c2c066469652061726561" "00041100" "00040700")
 DIE_ENTRY = "00000001" "06" "00" "00" "0001" "00000002" "403e400000000000" "0000001e" "bfd0000000000000"
+# tools/samples/group.cell under nearest with d = 1, its entry, and what is shown of its options
+GROUP = ("001c0502" + 48 * "0" + "000a060647524f555000"
+         "00042d00" "000626010001" "00082f0300000007" "00060d0200eb" "00062e020000" "002c1003" "0000000000000000" "0000001e00000000" "0000001e00000014" "0000000000000014" "0000000000000000" "00041100"
+         "00041500" "00082f0300000007" "00060d020004" "00062a020000" "000c10030000000f0000000a" "00041100"
+         "00040a00" "000626010000" "00082f0300000007" "0008120656494100" "000c10030000000f0000000a" "00041100" "00040700")
+GROUP_ENTRY = "00000001" "04" "00" "00" "0000" "00000001" "402e800000000000" "0000000f" "bfd0000000000000"
+GROUP_LINES = ["    42    ELFLAGS       1 (template)", "    48    PLEX          7", "   120    PLEX          7", "   160    ELFLAGS       0", "   166    PLEX          7",
+               "element 1 (node): 1 value affected, worst point 0 x: p 15.25, q 15, error 0.25 below"]
 TURNED = 'cell "A"\nreference "B" 3 1\n  at 0@1 0@1\n  column 10@1 0@1\n  degrees {}\n'
 
 
@@ -131,7 +139,7 @@ REFUSED = (
     ("write a.cell --policy 4 --unit 1 -o x", "refusal 1: "), ("write a.cell --policy 0 --unit -1 -o x", "refusal 2: "), ("measure a.cell --policy 0 --unit nan", "refusal 2: "),
     ("write grid.cell --policy strict --unit 1e-9 -o x", "refusal 18, block 3 (element 2, a node): a value is off the grid and the policy is strict\nravenvanity: looked at again, outside the proof: point 0, x, is 0.0005@1e-06, p 5e-10, p / d 0.5"),
     ("library a.library --policy strict --unit 1e-9 -o x", 'refusal 18, cell 0 ("VIA"), block 2 (element 1, a node): '), ("library a.library --policy 0 --unit 1e-300 -o x", "refusal 24, outside a cell: "),
-    ("show empty", "byte 0"), ("show a.cell", "byte 2"), ("show a.sheet", "it may be a sheet"), ("show cut.str", "cut.str, byte 80: "), ("show a.str --report cut.str", "cut.str, byte 4: report entry"), ("show a.str --report other.report", "other.report, byte 0: report entry: structure \"A\" has no element 0 that is a polygon"), ("show --report library.report", "a library's report is shown with its file"), ("draw a.sheet", "it may be a sheet"), (f"library damaged.sheet {CALL} -o x", "byte 431: element kind 77 is unknown"), ("sheet damaged.sheet", "byte 431: element kind 77 is unknown"), (f"write odd.hex {CALL} -o x", "odd.hex, hex digits"), ("show --report cut.report", "33 bytes, 32 are left"),
+    ("show empty", "byte 0"), ("show a.cell", "byte 2"), ("show a.sheet", "it may be a sheet"), ("show cut.str", "cut.str, byte 80: "), ("show a.str --report cut.str", "cut.str, byte 4: report entry"), ("show a.str --report other.report", "other.report, byte 0: report entry: structure \"A\" has no element 0 that is a polygon"), ("show --report library.report", "a library's report is shown with its file"), ("draw a.sheet", "it may be a sheet"), (f"library damaged.sheet {CALL} -o x", "byte 431: element kind 77 is unknown"), ("sheet damaged.sheet", "byte 431: element kind 77 is unknown: it is 1 to 6, raised by 16 with flags and by 32 with a plex number (block 1), in cell 1"), (f"write odd.hex {CALL} -o x", "odd.hex, hex digits"), ("show --report cut.report", "33 bytes, 32 are left"),
     ("draw empty", "byte 0"), ("draw a.gds --structure NO", "there is no structure"), ("draw none.gds", "no structure to draw"), ("sheet empty", "no `cell` line"), ("sheet cut.sheet", "cut.sheet, byte"),
     ("sheet a.library --cell", "`ravenvanity library` writes"), ("sheet a.cell --library", "which `ravenvanity write` writes"), ("sheet empty --program", "at least 9 bytes"), ("sheet turned.cell", "line 2: this array is turned by 30.0 degrees: give it the lines `sine` and `cosine`"), ("sheet one.cell", "stand together"), ("sheet corner.cell", "corner.cell, line 2: this box has no `second` line"),
     ("sheet infinite.cell --machine-sines", "not finite"), ("bounds 1 0 --unit 1 --policy 0", "refusal 32: "), ("bounds inf 0 --unit 1 --policy 0", "refusal 17, the lower end: "),
@@ -141,7 +149,7 @@ REFUSED = (
 
 def prepared(folder):
     """The files that the tables name."""
-    for name, sample in (("a.cell", "array.cell"), ("grid.cell", "grid.cell"), ("die.cell", "die.cell"), ("a.library", "two_cells.library")):
+    for name, sample in (("a.cell", "array.cell"), ("grid.cell", "grid.cell"), ("die.cell", "die.cell"), ("group.cell", "group.cell"), ("a.library", "two_cells.library")):
         with open(os.path.join(SAMPLES, sample), "rb") as f:
             folder.put(name, f.read())
     folder.put("empty", b"")
@@ -263,7 +271,7 @@ def shown(folder):
         folder.count.hold(f"{words}: a picture", root.tag, "{http://www.w3.org/2000/svg}svg")
     folder.says("draw a.gds -o b.svg", 0)
     folder.says("refusal 18 3", 0)
-    folder.count.hold("refusals", len(folder.says("refusal", 0).stdout.splitlines()), 27)
+    folder.count.hold("refusals", len(folder.says("refusal", 0).stdout.splitlines()), 28)
 
 
 # p, q and error of an entry that is else ROW_ENTRY, and how its line ends
@@ -379,7 +387,7 @@ NO_SPOTS = (
     ((7, 0, 0, 0), 4, "element kind 7 is unknown"), ((6, 1, 2, 0), 5, "a box has no field 1"), ((6, 4, 0, 0), 5, "a box has no field 4"), ((6, 9, 0, 0), 5, "a box has no field 9"), ((6, 0, 3, 0), 6, "axis 3 is unknown"),
     ((6, 0, 2, 0), 6, f"axis 2 of point 0; {SPOT}"), ((6, 0, 1, 1), 6, f"axis 1 of point 1; {SPOT}"), ((6, 0, 0, 2), 6, f"axis 0 of point 2; {SPOT}"), ((6, 0, 0, 3), 6, f"axis 0 of point 3; {SPOT}"),
     ((6, 0, 1, 4), 6, f"axis 1 of point 4; {SPOT}"), ((6, 0, 0, 256), 6, f"axis 0 of point 256; {SPOT}"), ((1, 1, 2, 0), 5, "a polygon has no field 1"), ((2, 4, 0, 0), 5, "a path has no field 4"),
-    ((3, 0, 0, 0), 5, "a text has no field 0"), ((4, 7, 0, 0), 5, "a node has no field 7"), ((5, 3, 2, 0), 5, "a reference has no field 3"), ((5, 9, 0, 0), 5, "a reference has no field 9"),
+    ((20, 0, 0, 0), 4, "element kind 20 is unknown"), ((38, 0, 0, 0), 4, "element kind 38 is unknown"), ((3, 0, 0, 0), 5, "a text has no field 0"), ((4, 7, 0, 0), 5, "a node has no field 7"), ((5, 3, 2, 0), 5, "a reference has no field 3"), ((5, 9, 0, 0), 5, "a reference has no field 9"),
 )
 
 
@@ -429,6 +437,76 @@ def boxes_refused(folder):
     folder.put("off.cell", 'cell "A"\n' + box_text("0@0 0@1", "9@1 9@1").replace("1 0", "1 256"))
     folder.says("write off.cell --policy strict --unit 1 -o x", 1, "refusal 9, block 1 (element 0, a box): a layer or type is above 255 (a text's type is not limited)\n"
                 "ravenvanity: looked at again, outside the proof: layer 1, type 256")
+
+
+# the first line of each kind, and the others that it must have
+KINDS = {"polygon": ("polygon 1 0", ""), "node": ("node 1 0", ""), "path": ("path 1 0", ""), "text": ('text 1 0 "T"', "  at 0@1 0@1\n"), "reference": ('reference "B"', "  at 0@1 0@1\n"),
+         "box": ("box 1 0", "  first 0@1 0@1\n  second 9@1 9@1\n")}
+
+
+def options(folder):
+    """Flags and plex numbers written, shown and turned back into a text; the kind in an entry is told without them."""
+    folder.says("write group.cell --policy nearest --unit 1 -o group.str --report group.report", 0, output="accepted: 202 bytes, 1 report entry, greatest error 0.25\n")
+    folder.count.hold("options: structure", folder.get("group.str").hex(), GROUP)
+    folder.count.hold("options: report", folder.get("group.report").hex(), GROUP_ENTRY)
+    lines = folder.says("show group.str --report group.report", 0).stdout.decode().splitlines()
+    folder.count.hold("options: lines", [line for line in lines if "ELFLAGS" in line or "PLEX" in line or "element" in line], GROUP_LINES)
+    folder.says("show group.str --report -", 1, "byte 4: report entry: element kind 36 is unknown", given=bytes.fromhex("0000000124" + GROUP_ENTRY[10:]))
+    folder.says("sheet group.cell -o group.sheet", 0)
+    text = folder.says("sheet group.sheet", 0).stdout.decode()
+    folder.count.hold("options: after the first line", text.splitlines()[2:5], ["box 235 0", "  flags 1", "  plex 7"])
+    folder.says("sheet - -o -", 0, output=folder.get("group.sheet"), given=text.encode())
+    for kind in KINDS:
+        options_anywhere(folder, kind)
+
+
+def options_anywhere(folder, kind):
+    """Both lines may stand in any order, before the others of the element or after; flags up to 65535 can be on a sheet."""
+    first, rest = KINDS[kind]
+    texts = [f'cell "A"\n{first}\n{lines}' for lines in (f"  flags 65535\n  plex -2147483648\n{rest}", f"{rest}  plex -2147483648\n  flags 65535\n")]
+    sheets = [folder.says("sheet - -o -", 0, given=text.encode()).stdout for text in texts]
+    folder.count.hold(f"options of a {kind}: one sheet", sheets[0], sheets[1])
+    start = form.read_pairs(sheets[0])[1][0]
+    folder.count.hold(f"options of a {kind}: kind byte, flags, plex number", sheets[0][start:start + 7].hex(), f"{cell_text.ELEMENTS[kind] + 48:02x}ffff80000000")
+
+
+def options_refused(folder):
+    """26 with its block and the flags, before the element's others, whose kind is told without options; a kind byte that is unknown."""
+    node = 'cell "A"\nnode 1 0\n  point 0@1 0@1\nnode {} 0\n  flags {}\n  plex 1\n  point 0@1 0@1\n'
+    for layer, flags, error in ((256, 4, "refusal 26, block 2 (element 1, a node): an element's flags are above 3\nravenvanity: looked at again, outside the proof: the flags are 4 (0x0004)"),
+                                (1, 65535, "looked at again, outside the proof: the flags are 65535 (0xffff)"), (256, 3, "refusal 9, block 2 (element 1, a node): ")):
+        folder.put("off.cell", node.format(layer, flags))
+        folder.says(f"write off.cell {CALL_1} -o x", 1, error)
+    folder.put("off.library", 'library "L"\nuser_unit 1\n' + node.format(1, 4))
+    folder.says(f"library off.library {CALL_1} -o x", 1, 'refusal 26, cell 0 ("A"), block 2 (element 1, a node): ')
+    folder.count.hold("refusal 26", folder.says("refusal 26 1", 0).stdout.decode().splitlines()[:3],
+                      ["refusal 26: an element's flags are above 3", "caused by: the designer", "order: in an element directly after its 5"])
+    sheet = folder.get("group.sheet")
+    start = form.read_pairs(sheet)[1][0]
+    for byte in (0, 16, 32, 48, 55, 54 + 64, 54 + 128):
+        damaged = sheet[:start] + bytes([byte]) + sheet[start + 1:]
+        words = f"byte {start}: element kind {byte} is unknown: it is 1 to 6, raised by 16 with flags and by 32 with a plex number (block 1)"
+        folder.says("sheet -", 1, f"standard input, {words}", given=damaged)
+        folder.says(f"write - {CALL_1} -o x", 1, "refusal 5, block 1 (element 0): the block is ill-formed", given=damaged)
+
+
+# the records after a node's first, each in hex, and what is told of its structure
+MISPLACED = (
+    (("00082f0300000007", "000626010001"), "byte 46: ELFLAGS stands where LAYER belongs"), (("000626010001", "000626010001"), "byte 44: ELFLAGS stands where LAYER belongs"),
+    (("00060d020001", "000626010001"), "byte 44: ELFLAGS stands where NODETYPE belongs"), (("00060d020001", "00062a020000", "00082f0300000007"), "byte 50: PLEX stands where XY belongs"),
+    (("000626020001",), "byte 41: ELFLAGS has data type 1, not 2"), (("0008260100000001",), "byte 42: ELFLAGS has 2 bytes of data, not 4"), (("00062f030007",), "byte 42: PLEX has 4 bytes of data, not 2"),
+)
+
+
+def options_misplaced(folder):
+    """ELFLAGS and PLEX elsewhere, or of another form; flags above 3, which this writer does not write, are shown."""
+    head = "001c0502" + 48 * "0" + "000606064100" "00041500"
+    for records, error in MISPLACED:
+        folder.says("show -", 1, error, given=(head + "".join(records) + "00060d020001").encode())
+    rest = "00060d020001" "00062a020000" "000c10030000000000000000" "00041100" "00040700"
+    for flags, words in (("0003", "3 (template, external)"), ("0002", "2 (external)"), ("8004", "32772")):
+        done = folder.says("show -", 0, given=f"{head}00062601{flags}{rest}".encode())
+        folder.count.hold(f"flags {flags}", done.stdout.decode().splitlines()[3], f"    38    ELFLAGS       {words}")
 
 
 def large(folder):
@@ -604,7 +682,8 @@ def main(paths):
     with tempfile.TemporaryDirectory() as path:
         folder = Folder(path, count)
         prepared(folder)
-        for part in (faults, ways, there_and_back, sines, shown, sides, greatest_held, written_sides, boxes, boxes_drawn, boxes_refused, large, ends, replaced, surveys):
+        for part in (faults, ways, there_and_back, sines, shown, sides, greatest_held, written_sides, boxes, boxes_drawn, boxes_refused, options,
+                     options_refused, options_misplaced, large, ends, replaced, surveys):
             part(folder)
     progress_told(count)
     sides_shown(cases, count)

@@ -55,6 +55,11 @@ BAD_TEXTS = (
     ('cell "A"\nbox 1 2\n first 0@1 0@1\n first 0@1 0@1', 4, "a second `first` in one box"), ('cell "A"\nbox 1 2\n point 0@1 0@1', 3, "`point` is no line of a box"),
     ('cell "A"\nbox 1 2\n at 0@1 0@1', 3, "`at` is no line of a box"), ('cell "A"\npolygon 1 2\n first 0@1 0@1', 3, "`first` is no line of a polygon"), ('cell "A"\nsecond 0@1 0@1', 2, "`second` before the first element"),
     ('cell "A"\nbox 1 2\n first 0@1', 3, "takes 2"), ('cell "A"\nbox 1 2\n second absent', 3, "takes 2"), ('cell "A"\nbox 1 2\n second 0@1 absent', 3, "VALUE@UNIT"),
+    ('cell "A"\nnode 1 2\n flags 65536', 3, "flags is from 0 to 65535, not 65536"), ('cell "A"\nbox 1 2\n flags -1', 3, "flags is from 0 to 65535, not -1"), ('cell "A"\npath 1 2\n flags 0x1', 3, "flags is a whole number"),
+    ('cell "A"\nnode 1 2\n plex 2147483648', 3, "plex is from -2147483648 to 2147483647, not 2147483648"), ('cell "A"\nreference "B"\n plex -2147483649', 3, "plex is from"), ('cell "A"\ntext 1 2 "T"\n plex 1.0', 3, "plex is a whole number"),
+    ('cell "A"\npolygon 1 2\n flags 1\n plex 1\n flags 1', 5, "a second `flags` in one polygon"), ('cell "A"\nreference "B"\n plex 0\n at 1@1 1@1\n plex 0', 5, "a second `plex` in one reference"),
+    ('cell "A"\nflags 1', 2, "`flags` before the first element"), ('cell "A"\nstamps zero\nplex 1', 3, "`plex` before the first element"), ('cell "A"\nnode 1 2\n flags', 3, "takes 1"), ('cell "A"\nnode 1 2\n plex 1 2', 3, "takes 1"),
+    ('cell "A"\nnode 1 2\n flags absent', 3, "flags is a whole number, not absent"), ('cell "A"\nnode 1 2\n plex "1"', 3, "plex is a whole number, not a string"),
 )
 
 BAD_LIBRARIES = (
@@ -63,7 +68,7 @@ BAD_LIBRARIES = (
     ('library "A"\nuser_unit x', 2, "user_unit is a decimal"), ('library "A"\nuser_unit 1\nuser_unit 1', 3, "once"),
     ('library "A"\nuser_unit 1\ncell "B"\nuser_unit 1', 4, "once"), ('library "A"\nlibrary "B"', 2, "second `library`"),
     ('library "A"\nuser_unit 1\nstamps 1', 3, "takes 12"), ('library "A"\nstamps zero\nstamps zero', 3, "second `stamps`"),
-    ('library "A"\nuser_unit 1\nnode 1 2', 3, "before the first cell"), ('library "A"\nuser_unit 1\ncell B', 3, "string"), ('library "A"\n"B"', 2, "starts with a word"),
+    ('library "A"\nuser_unit 1\nnode 1 2', 3, "before the first cell"), ('library "A"\nuser_unit 1\nflags 1', 3, "`flags` before the first cell"), ('library "A"\nuser_unit 1\ncell B', 3, "string"), ('library "A"\n"B"', 2, "starts with a word"),
     ('library "A"\nuser_unit 1\ncell "B"\nstamps zero\nstamps zero', 5, "once"), ('library "A"\nuser_unit 1\ncell "B"\n point 1@1 1@1', 4, "before the first element"),
     ('library "A"\nuser_unit 1\ncell "B"\ntext 1 2 "T"\ncell "C"', 4, "no `at` line"), ('library "A"\nuser_unit 1\n' + 'cell "B"\n' * 16384, 16386, "16,383 cells"),
 )

@@ -7,14 +7,14 @@ and Libraries.antt in crates/cases/specs and Open.antt in crates/cases/proofs, a
 
 Of the cells it takes small ones that together have every element kind, policy, record, report field and refusal number, an
 array turned by an angle, boxes whose second corner lies on each side of the first and whose entries stand for each of the
-four coordinates, and deviations above 0 and below under each policy as far as there are such; of a refusal one for each
-kind of element (Cells.antt). The stored cases that end in 21 and 22 are large, so cells with shorter buffers stand in for
-them, with the answer that follows from the stored one. Two cells of document 01's rows are written here by hand. So are the
-streams (Streams.antt), but for some of the stored cells; what is read from them is the answer of tools/reading_model.py, and
-what that is written to the answer of tools/model.py.
+four coordinates, flags, a plex number and both, in every element kind one of these, and deviations above 0 and below under
+each policy as far as there are such; of a refusal one for each kind of element (Cells.antt). The stored cases that end in 21
+and 22 are large, so cells with shorter buffers stand in for them, with the answer that follows from the stored one. Two cells
+of document 01's rows are written here by hand. So are the streams (Streams.antt), but for some of the stored cells; what is
+read from them is the answer of tools/reading_model.py, and what that is written to the answer of tools/model.py.
 Of the libraries it takes small ones that together have every policy, with entries and without, odd and even names, no, one
-and more cells, with a box and without, entries of several cells and the reals 0.001 and 1e-9 in UNITS, and of every refusal
-the smallest, where those in a cell's elements count as one (Libraries.antt).
+and more cells, with a box and without, with flags or plex numbers and without, entries of several cells and the reals 0.001
+and 1e-9 in UNITS, and of every refusal the smallest, where those in a cell's elements count as one (Libraries.antt).
 Open.antt opens every definition of the specs below `cases`.
 
 Exit status: 0 with the four files, 1 where a file cannot be read or written, 2 where it was called wrongly.
@@ -45,18 +45,20 @@ def blocks(sheet):
     return [sheet[a:a + m] for a, m in pairs]
 
 
-def turned(block):
-    """A reference that is an array with a sine and a cosine that are not 0."""
-    n = struct.unpack(">H", block[1:3])[0]
-    columns, rows, _, _, _, sine, cosine = struct.unpack(">IIBdddd", block[3 + n:44 + n])
-    return columns * rows > 1 and sine != 0 and cosine != 0
+def turned(e):
+    """Whether a reference is an array with a sine and a cosine that are not 0."""
+    return e.columns * e.rows > 1 and form.double_of(e.sine) != 0 and form.double_of(e.cosine) != 0
 
 
-def box_lies(block):
+def box_lies(e):
     """Of a box, whether its second corner's numbers are above the first's or below, in x and in y."""
-    e = form.read_element(block, (0, len(block)), 0)
     x1, y1, x2, y2 = (c.value if c.kind == form.INTEGER else form.double_of(c.value) for c in (*e.first, *e.second))
     return x1 < x2, x1 > x2, y1 < y2, y1 > y2
+
+
+def optioned(e):
+    """Whether an element has flags, and whether it has a plex number."""
+    return e.flags is not None, e.plex is not None
 
 
 def codes(stream):
@@ -78,12 +80,14 @@ class Vector:
         """What an accepted cell shows."""
         policy, _, sheet = model.call_of(self.input)
         found = {("policy", policy)}
-        for b in blocks(sheet)[1:]:
-            found.add(("kind", b[0], policy))
-            if b[0] == form.REFERENCE and turned(b):
+        for e in form.read_sheet(sheet).elements:
+            found |= {("kind", e.kind, policy), ("options", *optioned(e))}
+            if any(optioned(e)):
+                found.add(("options of", e.kind))
+            if e.kind == form.REFERENCE and turned(e):
                 found.add(("turned", bool(self.lines[2:])))
-            if b[0] == form.BOX:
-                found.add(("box lies", *box_lies(b)))
+            if e.kind == form.BOX:
+                found.add(("box lies", *box_lies(e)))
         found |= {("record", c) for c in codes(bytes.fromhex(self.lines[1]))}
         for e in self.lines[2:]:
             e = bytes.fromhex(e)
@@ -98,8 +102,7 @@ class Vector:
         block = int(self.fields[2])
         if block == 0:
             return 0
-        kind = blocks(self.input[FRONT:])[block][0]
-        return kind if kind in form.FORMS else None
+        return form.kind_of(blocks(self.input[FRONT:])[block][0])
 
     def expected(self):
         f = self.fields
@@ -215,11 +218,11 @@ class Library(Vector):
     def features(self):
         """What an accepted library shows."""
         head, *cells = blocks(self.input[FRONT:])
-        name = head[2:-32]
+        name, elements = head[2:-32], [e for cell in cells for e in form.read_sheet(cell).elements]
         report = [bytes.fromhex(e) for e in self.lines[2:]]
         return {("policy", self.input[0], bool(report)), ("cells", min(len(cells), 2)), ("length", len(name) % 2), ("zero", name[-1:] == b"\0"),
                 ("entries", tuple(sorted({e[3] for e in report}))), ("stamps", any(head[-24:])),
-                ("box", any(b[0] == form.BOX for cell in cells for b in blocks(cell)[1:])),
+                ("box", any(e.kind == form.BOX for e in elements)), ("options", any(any(optioned(e)) for e in elements)),
                 ("units", head[-32:-24] == struct.pack(">d", 0.001) and self.input[1:FRONT] == struct.pack(">d", 1e-9))}
 
     def fault(self):
@@ -313,6 +316,9 @@ def magnified(v): return cell(text(transform=strans(mag(v))))
 def turned_by(v): return cell(text(transform=strans(angle(v))))
 def owned(*properties): return boundary(tail=b"".join(properties) + ENDEL)
 def owns(attribute, value): return word(0x2b, attribute) + string(0x2c, value)
+def flags(v): return bits(0x26, v)
+def plex(v): return long(0x2f, v)
+def with_options(element, *records): return element[:4] + b"".join(records) + element[4:]
 
 
 def grammar_streams():
@@ -392,6 +398,22 @@ def box_grammar_streams():
         ("a BOX with data", cell(rec(0x2d, 0, b"\0\0") + box()[4:]), NO_RECORD),
         ("a BOXTYPE of another data type", cell(empty(0x2d) + word(0x0d, 1) + bits(0x2e, 2) + long(0x10, *OBLONG) + ENDEL), NO_RECORD),
         ("a BOXTYPE of four bytes", cell(empty(0x2d) + word(0x0d, 1) + word(0x2e, 0, 2) + long(0x10, *OBLONG) + ENDEL), NO_RECORD),
+    ]
+
+
+def option_grammar_streams():
+    """The same of ELFLAGS and PLEX; how great flags are is asked for a sheet alone."""
+    return [
+        ("ELFLAGS and PLEX", cell(with_options(boundary(), flags(3), plex(-1))), DRAWS),
+        ("ELFLAGS alone", cell(with_options(text(), flags(0))), DRAWS),
+        ("PLEX alone", cell(with_options(sref(), plex(2**24))), DRAWS),
+        ("flags of 4", cell(with_options(node(), flags(4))), DRAWS),
+        ("PLEX before ELFLAGS", cell(with_options(node(), plex(1), flags(1))), NOT_OF_GRAMMAR),
+        ("ELFLAGS twice", cell(with_options(node(), flags(1), flags(1))), NOT_OF_GRAMMAR),
+        ("ELFLAGS after LAYER", cell(empty(0x15) + word(0x0d, 1) + flags(1) + word(0x2a, 2) + long(0x10, 1, 2) + ENDEL), NOT_OF_GRAMMAR),
+        ("PLEX after SNAME", cell(empty(0x0a) + string(0x12, b"B\0") + plex(1) + long(0x10, 1, 2) + ENDEL), NOT_OF_GRAMMAR),
+        ("an ELFLAGS of another data type", cell(with_options(node(), word(0x26, 1))), NO_RECORD),
+        ("a PLEX of another data type", cell(with_options(node(), word(0x2f, 0, 1))), NO_RECORD),
     ]
 
 
@@ -560,6 +582,17 @@ def box_sheet_streams():
     ]
 
 
+def option_sheet_streams():
+    """The same of flags and plex numbers."""
+    return [
+        ("every kind with both", cell(*[with_options(element, flags(2), plex(-2**31)) for element in (boundary(), path(), text(), node(), sref(), aref(), box())])),
+        ("1 x 1 AREF with both", cell(with_options(aref((1, 1)), flags(1), plex(2**31 - 1)))),
+        ("flags of 32,768 in the second element", cell(with_options(node(), flags(3)), with_options(box(), flags(0x8000)))),
+        ("26, then 9", cell(with_options(boundary(layer=256), flags(4), plex(0)))),
+        ("26, then PLEX of another data type", cell(with_options(node(), flags(4), word(0x2f, 0, 1)))),
+    ]
+
+
 def fault_of(fault):
     return {None: "none", NO_RECORD: "some noRecord", NOT_OF_GRAMMAR: "some notOfGrammar", 11: "some (beyond R.ColumnsOrRows)", 30: "some (beyond R.ArrayCorners)"}[fault]
 
@@ -585,10 +618,10 @@ def stream_row(why, data):
 
 def streams_module(vectors):
     """The streams above, and those of small stored cells, each with what the model finds in it."""
-    by_hand = grammar_streams() + box_grammar_streams()
+    by_hand = grammar_streams() + box_grammar_streams() + option_grammar_streams()
     for why, data, fault in by_hand:
         assert reading_model.grammar_fault(data) == fault, why
-    rows = [(why, data) for why, data, _ in by_hand] + sheet_streams() + box_sheet_streams()
+    rows = [(why, data) for why, data, _ in by_hand] + sheet_streams() + box_sheet_streams() + option_sheet_streams()
     accepted_ones = sorted((v for v in vectors if v.fields[0] == "ok"), key=lambda v: len(v.lines[1]))
     rows += [(v.name, bytes.fromhex(v.lines[1])) for v in accepted_ones if len(v.lines[1]) <= 2 * LARGEST][::16]
     return len(rows), '''-- Streams with what is read from them: made by tools/computed_cases.py. Assumes nothing.

@@ -1,9 +1,10 @@
 #!/usr/bin/env python3
 """An independent model of the program `structure`, and of writing libraries, for stored results. A convenience, outside the proof.
 
-It follows document 01, requests 1 to 3 of document 02, and gdsr's write/mod.rs, gds_box.rs, validation.rs and conversion.rs,
-and shares no code with the proved writer. Products, quotients and differences are Python's, IEEE doubles; mul_add, rounding
-to whole numbers and eight-byte reals are worked out over exact fractions; one step is taken from bit patterns.
+It follows document 01, requests 1 to 3 and 5 of document 02, and gdsr's write/mod.rs, gds_box.rs, validation.rs and
+conversion.rs, and shares no code with the proved writer. Products, quotients and differences are Python's, IEEE doubles;
+mul_add, rounding to whole numbers and eight-byte reals are worked out over exact fractions; one step is taken from bit
+patterns.
 
     model.py CASES      compares the answers stored in a file of cases (tools/case_files.py) with the model's, and counts
     model.py            reads the program's input from standard input and prints the program's lines
@@ -168,7 +169,7 @@ def words(code, *values):
     return record(code, 2, struct.pack(f">{len(values)}H", *values))
 
 
-def flags(code, value):
+def bit_array(code, value):
     return record(code, 1, struct.pack(">H", value))
 
 
@@ -208,14 +209,24 @@ def transform(e):
         reals += record(0x1b, 5, real8(magnification))
     if degrees != 0:
         reals += record(0x1c, 5, real8(degrees))
-    return flags(0x1a, e.reflection << 15) + reals if reals or e.reflection else b""
+    return bit_array(0x1a, e.reflection << 15) + reals if reals or e.reflection else b""
+
+
+def first(e, code):
+    """An element's first record, and ELFLAGS and PLEX where it has them: the manual's, since gdsr has neither."""
+    out = record(code, 0)
+    if e.flags is not None:
+        out += bit_array(0x26, e.flags)
+    if e.plex is not None:
+        out += longs(0x2f, [e.plex])
+    return out
 
 
 def outlined(e, c, points, code, type_code):
     layer_and_type(e)
     written = [c.point(p, POINT, k) for k, p in enumerate(points)]
     need(e.kind == form.NODE or written[0] == written[-1], 20)
-    return record(code, 0) + words(0x0d, e.layer) + words(type_code, e.type) + xy(written)
+    return first(e, code) + words(0x0d, e.layer) + words(type_code, e.type) + xy(written)
 
 
 def shape(e, c):
@@ -231,7 +242,7 @@ def box(e, c):
 def path(e, c):
     need(2 <= len(e.points) <= 8191, 8)
     layer_and_type(e)
-    out = record(0x09, 0) + words(0x0d, e.layer) + words(0x0e, e.type)
+    out = first(e, 0x09) + words(0x0d, e.layer) + words(0x0e, e.type)
     if e.path_type != form.NO_PATH_TYPE:
         out += words(0x21, e.path_type)
     for code, field, length in ((0x0f, WIDTH, e.width), (0x30, BEGIN, e.begin), (0x31, END, e.end)):
@@ -243,7 +254,7 @@ def path(e, c):
 def text(e, c):
     need(e.layer <= 255, 9)
     need(len(e.string) <= 512, 10)
-    out = record(0x0c, 0) + words(0x0d, e.layer) + words(0x16, e.type) + flags(0x17, 4 * e.vertical + e.horizontal)
+    out = first(e, 0x0c) + words(0x0d, e.layer) + words(0x16, e.type) + bit_array(0x17, 4 * e.vertical + e.horizontal)
     return out + transform(e) + xy([c.point(e.origin, ORIGIN)]) + string(0x19, e.string)
 
 
@@ -276,7 +287,7 @@ def reference(e, c):
     need(e.columns == 1 or e.column[0].kind != form.ABSENT, 12)
     need(e.rows == 1 or e.row[0].kind != form.ABSENT, 12)
     single = e.columns == 1 and e.rows == 1
-    out = record(0x0a if single else 0x0b, 0) + string(0x12, e.name) + transform(e)
+    out = first(e, 0x0a if single else 0x0b) + string(0x12, e.name) + transform(e)
     if single:
         return out + xy([c.point(e.origin, ORIGIN)])
     return out + words(0x13, e.columns, e.rows) + xy(corners(e, c))
@@ -302,6 +313,7 @@ def is_date(year, month, day, hour, minute, second):
 def write_block(policy, d, sheet, pair, k):
     try:
         e = form.read_element(sheet, pair, k)
+        need(e.flags is None or e.flags <= 3, 26)
         c = Converter(policy, d, k - 1, e.kind)
         return WRITERS[e.kind](e, c) + tail(e.properties), c.entry()
     except form.Ill:

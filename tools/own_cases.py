@@ -95,6 +95,10 @@ def cell(*elements, policy=0, d=1.0, name=b"A", stamps=ZERO):
 
 BAD_FORM = b"\7"
 OFF_GRID = node([at(0.5, 0)])
+# of each refusal of an element one that it is given to, under strict
+FAULTS = ((5, BAD_FORM), (7, reference(name=b"-")), (8, node([])), (9, node(layer=256)), (10, text(b"t" * 513)), (11, reference(0, 1)),
+          (12, reference(2, 1)), (13, text(magnification=0.0)), (14, text(degrees=UP)), (15, array(sine=2.0)), (16, node([(whole(0, 0.0), whole(0))])),
+          (17, node([at(math.nan, 0)])), (18, OFF_GRID), (19, node([at(1e10, 0)])), (20, polygon(SQUARE[:3] + [at(1, 0)])))
 
 
 # ---- the caller and the pairs: 1 to 4
@@ -171,12 +175,12 @@ def lengths():
         block = form.element_bytes(element)
         yield f"a {name} with a property", cell(block)
         yield f"a byte after a {name}", cell(block + b"\0")
-        for end in cuts(block, lambda r: form.FORMS[r.number(1, "kind")](r, block[0])):
+        for end in cuts(block, form.element_form):
             yield f"a {name} cut after {end} bytes", cell(block[:end])
 
 
 def codes():
-    for kind in (0, 7, 17, 33, 49, 255):
+    for kind in (0, 7, 16, 23, 32, 39, 48, 55, 65, 68, 129, 132, 255):
         yield f"element kind {kind}", cell(bytes([kind]) + form.element_bytes(node())[1:])
     for code in (0, 1, 2, 3, 254, 255):
         yield f"path type {code}", cell(path(path_type=code))
@@ -631,6 +635,95 @@ def box_report():
     yield "a box on the grid, one off it, a node off it", cell(box(), box_of(y2=real(0.375)), node([at(0.25, 0)]))
 
 
+# ---- flags and plex numbers: document 02, request 5
+
+
+OPTIONED = (("a polygon", polygon()), ("a path", path()), ("a text", text()), ("a node", node()), ("a reference", reference()), ("an array", array()), ("a box", box()))
+OPTIONS = (("flags", {"flags": 1}), ("a plex number", {"plex": -2}), ("both", {"flags": 2, "plex": 7}))
+BOTH = {"flags": 3, "plex": SMALL}
+BAD_FLAGS = node()._replace(flags=4)
+# of each kind one with an entry
+OFF_GRIDS = (polygon([at(0.5, 0)] + SQUARE[1:3] + [at(0.5, 0)]), path(width=real(2.5)), text(origin=at(0, 0.25)), OFF_GRID, array(column=at(0.5, 0)),
+             box_of(y2=real(0.5)))
+
+
+def options():
+    for name, element in OPTIONED:
+        for why, more in OPTIONS:
+            yield f"{name} with {why}", cell(element._replace(**more))
+    for flags in (0, 1, 2, 3, 4, 5, 0x0100, 0x0103, 0x8000, 65535):
+        yield f"flags {flags}", cell(node()._replace(flags=flags))
+    for plex in (0, 1, -1, 2**24 - 1, 2**24, -2**24, BIG, SMALL):
+        yield f"plex number {plex}", cell(node()._replace(plex=plex))
+    for flags in (0, 3, 4, 65535):
+        for plex in (0, SMALL):
+            yield f"flags {flags}, plex number {plex}", cell(node()._replace(flags=flags, plex=plex))
+    yield "flags and plex number, which are others the other way round", cell(node()._replace(flags=1, plex=0x20003))
+    for name, element in KINDS:
+        yield f"a {name} with both and a property", cell(element._replace(**BOTH))
+    yield "elements with and without options in turn", cell(node(), *[element._replace(**more) for _, more in OPTIONS for element in (box(), node())], node())
+    yield "two elements of one plex number", cell(box()._replace(plex=5), reference()._replace(plex=5))
+    yield "what is 0 is not absent", cell(node()._replace(flags=0, plex=0), node()._replace(flags=0), node()._replace(plex=0), node())
+
+
+def option_form():
+    bad = form.element_bytes(BAD_FLAGS._replace(plex=1))
+    for kind in (0, 7, 16, 23, 32, 39, 48, 55, 65, 116, 129, 180, 255):
+        yield f"5 of kind {kind} before 26", cell(bytes([kind]) + bad[1:])
+    for why, more in (("no options", {}), *OPTIONS):
+        block = form.element_bytes(node()._replace(**more))
+        for kind in (4, 20, 36, 52):
+            if kind != block[0]:
+                yield f"a node with {why} under kind {kind}", cell(bytes([kind]) + block[1:])
+    for size, (why, more) in zip((2, 4, 6), OPTIONS):
+        for end in range(1, size + 2):
+            yield f"a node with {why} cut after {end} bytes", cell(form.element_bytes(node()._replace(**more))[:end])
+    for name, element in OPTIONED:
+        block = form.element_bytes(element._replace(flags=4, plex=1))
+        for end in (2, 6, len(block) - 1):
+            yield f"5 of {name} cut after {end} bytes before 26", cell(block[:end])
+        yield f"5 of a byte after {name} before 26", cell(form.element_bytes(element._replace(flags=4)) + b"\0")
+    yield "5 of path type 3 before 26", cell(path(path_type=3)._replace(flags=4))
+    yield "5 of a text's reflection 2 before 26", cell(text(reflection=2)._replace(flags=4))
+    yield "5 of an absent point before 26", cell(node([GONE])._replace(flags=65535, plex=0))
+    yield "5 of half a row spacing before 26", cell(reference(row=(NOTHING, whole(0)))._replace(flags=4))
+
+
+def option_order():
+    for name, element in OPTIONED:
+        yield f"26 of {name}", cell(element._replace(flags=4))
+        yield f"26 of {name} with a plex number", cell(element._replace(flags=65535, plex=-1))
+    for number, element in FAULTS:
+        if number != 5:
+            yield f"26 before {number}", cell(element._replace(flags=4), policy=3)
+            yield f"{number} of an element with flags 3 and a plex number", cell(element._replace(**BOTH), policy=3)
+    yield "26 of a box before 9 of its type", cell(box(type=256)._replace(flags=4))
+    yield "26 of a path before 16 of its width", cell(path(width=real(1.0, 0.0))._replace(flags=4, plex=1))
+    yield "26 in block 2", cell(node(), BAD_FLAGS, node())
+    yield "26 in block 3, after an element off the grid", cell(OFF_GRID, node()._replace(**BOTH), BAD_FLAGS)
+    yield "9 in block 1 before 26 in block 2", cell(node(layer=256), BAD_FLAGS)
+    yield "26 in block 1 before 9 in block 2", cell(BAD_FLAGS, node(layer=256))
+    yield "5 in block 1 before 26 in block 2", cell(BAD_FORM, BAD_FLAGS)
+    yield "26 in block 1 before 5 in block 2", cell(BAD_FLAGS, BAD_FORM)
+    yield "26 in blocks 1 and 2", cell(BAD_FLAGS, BAD_FLAGS)
+    yield "7 of the head before 26", cell(BAD_FLAGS, name=b"-")
+
+
+def option_report():
+    for element in OFF_GRIDS:
+        yield f"the entry of an element of kind {element.kind} with both", cell(element._replace(**BOTH))
+    yield "the entry of a 1 x 1 reference with both", cell(reference(origin=at(0.25, 7))._replace(**BOTH))
+    for why, more in OPTIONS[:2]:
+        yield f"the entry of a node with {why}", cell(OFF_GRID._replace(**more))
+    yield "entries of elements 1 and 3 alone, with options", cell(node(), OFF_GRID._replace(flags=1), polygon(), box_of(y2=real(0.25))._replace(plex=9), node())
+
+
+def option_buffer():
+    """A property with an empty value has 4 bytes on the sheet and 10 in the structure, so that a short sheet fills the output."""
+    properties = [Property(1, b"")] * 1631
+    yield "a structure of 16,386 bytes, 6 of them for ELFLAGS", cell(node(properties=properties)._replace(flags=1))
+
+
 # ---- arrays, the buffers, mixed cells
 
 
@@ -716,11 +809,22 @@ def any_element(r):
     return array(r.choice((1, 2, 100, 3000)), r.choice((1, 3, 50)), any_point(r), any_point(r), sine=sine, cosine=cosine, **turn)
 
 
+def any_options(r):
+    return {"flags": r.choice((None, 0, 1, 2, 3)), "plex": r.choice((None, 0, r.randrange(SMALL, BIG + 1)))}
+
+
 def mixed():
     r = random.Random(2024)
     for k in range(60):
         elements = [any_element(r) for _ in range(r.randrange(1, 7))]
         yield f"a mixed cell, {POLICIES[k % 3]}", cell(*elements, policy=k % 3, d=1e-9, stamps=DATE + DATE, name=b"MIX_%d" % k)
+
+
+def mixed_options():
+    r = random.Random(26)
+    for k in range(9):
+        elements = [any_element(r)._replace(**any_options(r)) for _ in range(r.randrange(1, 4))]
+        yield f"a mixed cell with options, {POLICIES[k % 3]}", cell(*elements, policy=k % 3, d=1e-9, name=b"OPTIONS_%d" % k)
 
 
 # ---- libraries: the caller, 23, the library's 6, 24
@@ -833,11 +937,6 @@ def library_names():
 # ---- libraries: their cells
 
 
-FAULTS = ((5, BAD_FORM), (7, reference(name=b"-")), (8, node([])), (9, node(layer=256)), (10, text(b"t" * 513)), (11, reference(0, 1)),
-          (12, reference(2, 1)), (13, text(magnification=0.0)), (14, text(degrees=UP)), (15, array(sine=2.0)), (16, node([(whole(0, 0.0), whole(0))])),
-          (17, node([at(math.nan, 0)])), (18, OFF_GRID), (19, node([at(1e10, 0)])), (20, polygon(SQUARE[:3] + [at(1, 0)])))
-
-
 def library_faults():
     for number, element in FAULTS:
         yield f"{number} in cell 0, block 1", library(sheet(element), policy=3)
@@ -897,8 +996,7 @@ def library_reports():
     yield "an entry of the last element of the last cell alone", library(sheet(node()), sheet(node(), node(), OFF_GRID))
     yield "cells with and without entries in turn", library(*[off(0.25 if k % 2 else 1.0) for k in range(9)])
     yield "document 01's array in cell 1", library(sheet(name=b"B"), sheet(array(4, 1, origin=at(0.5, 0.0), column=at(10.5, 0.0), row=GONE)))
-    yield "an entry of every kind, in six cells", library(*[sheet(element) for element in (
-        polygon([at(0.5, 0)] + SQUARE[1:3] + [at(0.5, 0)]), path(width=real(2.5)), text(origin=at(0, 0.25)), OFF_GRID, array(column=at(0.5, 0)), box_of(y2=real(0.5)))])
+    yield "an entry of every kind, in six cells", library(*map(sheet, OFF_GRIDS))
 
 
 def library_sides():
@@ -914,6 +1012,16 @@ def library_boxes():
     yield "a box's entry in the last cell", library(sheet(box()), sheet(node(), box_of(x2=real(2.75))))
     for number, element in ((5, b"\6"), (9, box(type=256)), (16, box_of(y1=BOX_FAULTS[16])), (19, box_of(y2=BOX_FAULTS[19]))):
         yield f"{number} of a box in cell 1, block 2", library(sheet(box()), sheet(node(), element), NO_SHEET)
+
+
+def library_options():
+    yield "flags and plex numbers in two cells", library(sheet(*[node()._replace(**more) for _, more in OPTIONS]), sheet(box()._replace(**BOTH), reference()))
+    yield "entries of elements with options in two cells", library(sheet(OFF_GRID._replace(flags=2)), sheet(node(), OFF_GRID._replace(**BOTH)))
+    yield "26 in cell 0, block 1", library(sheet(BAD_FLAGS), NO_SHEET)
+    yield "26 in cell 1, block 2", library(sheet(node()._replace(**BOTH)), sheet(node(), BAD_FLAGS, BAD_FORM), NO_SHEET)
+    yield "cell 0's 9 before cell 1's 26", library(sheet(node(layer=256)), sheet(BAD_FLAGS))
+    yield "cell 1's 4 before cell 2's 26", library(sheet(), NO_SHEET, sheet(BAD_FLAGS))
+    yield "cell 1's 5 of a kind byte 48 before 26", library(sheet(), sheet(b"\x30" + form.element_bytes(BAD_FLAGS)[1:]))
 
 
 def library_calls():
@@ -941,11 +1049,12 @@ def library_mixed():
 
 GROUPS = (caller, pairs, lengths, codes, coordinates, stamps, names, counts, layers, strings, grids, transforms, turns, units, finite,
           rounding, competing, ends, report, fronts, sides, greatest_below, infinite_sides, array_sides, boxes, box_form, box_order,
-          box_report, arrays, buffers, mixed)
+          box_report, options, option_form, option_order, option_report, option_buffer, arrays, buffers, mixed, mixed_options)
 
 
 LIBRARY_GROUPS = (library_caller, library_pairs, library_front, library_stamps, library_units, library_names, library_faults,
-                  library_order, library_reports, library_sides, library_boxes, library_calls, library_many, library_mixed)
+                  library_order, library_reports, library_sides, library_boxes, library_options, library_calls, library_many,
+                  library_mixed)
 
 
 def cases():

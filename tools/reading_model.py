@@ -1,6 +1,6 @@
 #!/usr/bin/env python3
-"""An independent model of reading a structure back to a cell sheet (document 02, request 8), for stored results. A
-convenience, outside the proof.
+"""An independent model of reading a structure back to a cell sheet (document 02, request 8; ELFLAGS and PLEX: its request
+5), for stored results. A convenience, outside the proof.
 
 It goes over the records once and looks at each as the papers say: first whether a well-formed record is there, then
 whether the grammar has it there, then whether its data are refused. What an eight-byte real is worth is worked out over
@@ -101,6 +101,8 @@ def limit(kind, name, data, place):
         need(model.stamped(struct.unpack(">12H", data)), 6)
     elif name in ("STRNAME", "SNAME"):
         need(model.is_name(dropped(data)), 7)
+    elif name == "ELFLAGS":
+        need(number(data) <= 3, 26)
     elif name in ("LAYER", "DATATYPE", "NODETYPE", "BOXTYPE"):
         need(number(data) <= 255, 9)
     elif name == "PATHTYPE":
@@ -220,7 +222,8 @@ def length(data):
     return form.NOTHING if data is None else integer(stream.longs(data)[0])
 
 
-def element(kind, found):
+def body(kind, found):
+    """An element without its options."""
     points, properties = [point(p) for p in stream.points(found["XY"])], found["properties"]
     if kind in ("BOUNDARY", "NODE"):
         kind_of_type = "DATATYPE" if kind == "BOUNDARY" else "NODETYPE"
@@ -238,6 +241,11 @@ def element(kind, found):
     columns, rows = struct.unpack(">HH", found["COLROW"]) if kind == "AREF" else (1, 1)
     spacings = [2 * [form.NOTHING]] * 2 if columns == rows == 1 else [point(p) for p in found["steps"]]
     return form.Reference(form.REFERENCE, dropped(found["SNAME"]), columns, rows, *transform(found), ZERO, ONE, points[0], *spacings, properties)
+
+
+def element(kind, found):
+    flags, plex = found["ELFLAGS"], found["PLEX"]
+    return body(kind, found)._replace(flags=None if flags is None else number(flags), plex=None if plex is None else stream.longs(plex)[0])
 
 
 def read(data):

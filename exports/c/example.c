@@ -19,11 +19,13 @@ static void add_array(struct ravenvanity_sheet *sheet) {
     ravenvanity_add_reference(sheet, array);
 }
 
-// Polygons, a text and a box, the die's area, in micrometres, a path in nanometres.
+// Polygons of one plex, a text and a box, the die's area, which is template data, in micrometres, a path in nanometres.
 static void add_shapes(struct ravenvanity_sheet *sheet) {
     static const double squares[][8] = {{0, 0, 2, 0, 2, 2, 0, 2}, {3, 0, 5.0004, 0, 5.0004, 2, 3, 2}};
-    for (size_t k = 0; k < sizeof squares / sizeof squares[0]; k++)
+    for (size_t k = 0; k < sizeof squares / sizeof squares[0]; k++) {
         ravenvanity_add_polygon(sheet, 1, 0, ravenvanity_closed(ravenvanity_doubles(squares[k], 4, 1e-6)));
+        ravenvanity_set_plex(sheet, 1);
+    }
 
     static const int32_t wire[] = {0, 1000, 5000, 1000, 5000, 4000};
     struct ravenvanity_path path = ravenvanity_new_path(2, 0, ravenvanity_integers(wire, 3, 1e-9));
@@ -38,6 +40,7 @@ static void add_shapes(struct ravenvanity_sheet *sheet) {
     ravenvanity_add_property(sheet, 1, "power");
 
     ravenvanity_add_box(sheet, 235, 0, ravenvanity_double_xy(0, 0, 1e-6), ravenvanity_double_xy(6.0002, 4, 1e-6));
+    ravenvanity_set_flags(sheet, RAVENVANITY_TEMPLATE);
 }
 
 static struct ravenvanity_sheet finished(struct ravenvanity_sheet sheet) {

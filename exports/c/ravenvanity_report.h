@@ -48,6 +48,7 @@ static inline const char *ravenvanity_refusal_words(uint8_t number) {
     case RAVENVANITY_REFUSAL_LIBRARY_FORM: return "the library's pairs are ill-formed, as a cell's in 4, or its block 0 is not a name, a user unit and twelve stamp numbers and no byte more";
     case RAVENVANITY_REFUSAL_LIBRARY_UNITS: return "the user unit is not finite and positive, or no eight-byte real equals it or d: below 2^-260, or from 2^252";
     case RAVENVANITY_REFUSAL_LIBRARY_NAME: return "the library's name is over 65,530 bytes";
+    case RAVENVANITY_REFUSAL_FLAGS: return "an element's flags are above 3";
     case RAVENVANITY_REFUSAL_BOUNDS: return "the lower end is above the upper, or the policy is strict and the ends are not equal";
     case RAVENVANITY_REFUSAL_SURVEY_COUNT: return "the number of places is not 1 to 65,536";
     default: return "no refusal";
@@ -102,7 +103,7 @@ enum ravenvanity_axis {
 struct ravenvanity_entry {
     size_t cell;       /* of a library: the cell's number, from 0; of a cell's own report RAVENVANITY_NO_CELL */
     uint32_t index;    /* the element's, from 0: its block's number less 1 */
-    uint8_t kind;      /* of enum ravenvanity_kind */
+    uint8_t kind;      /* of enum ravenvanity_kind, not raised by flags or a plex number */
     uint8_t field;     /* of enum ravenvanity_field */
     uint8_t axis;      /* of enum ravenvanity_axis */
     uint16_t place;    /* of a point its place in its list, of a box among its five points, from 0; else 0 */

@@ -43,13 +43,13 @@ static inline const char *ravenvanity_fault_words(enum ravenvanity_fault fault) 
     switch (fault) {
     case RAVENVANITY_NO_FAULT: return "no fault";
     case RAVENVANITY_FAULT_MEMORY: return "there is no memory";
-    case RAVENVANITY_FAULT_TURN: return "a call out of turn: a library comes first, an element after its cell, a property after its element, and nothing after the end";
+    case RAVENVANITY_FAULT_TURN: return "a call out of turn: a library comes first, an element after its cell, its flags, plex number and properties after the element, and nothing after the end";
     case RAVENVANITY_FAULT_SHEET_SIZE: return "the sheet is over 16,777,216 bytes";
     case RAVENVANITY_FAULT_BLOCKS: return "more than 16,383 elements of a cell, or cells of a library";
     case RAVENVANITY_FAULT_POINTS: return "more than 65,535 points";
     case RAVENVANITY_FAULT_PROPERTIES: return "more than 65,535 properties";
     case RAVENVANITY_FAULT_STRING: return "a string of more than 65,535 bytes";
-    case RAVENVANITY_FAULT_NUMBER: return "a layer, type or attribute above 65,535, columns or rows above 32 bits, or an integer coordinate beyond signed 32 bits";
+    case RAVENVANITY_FAULT_NUMBER: return "a layer, type, attribute or flags above 65,535, columns or rows above 32 bits, or an integer coordinate or a plex number beyond signed 32 bits";
     case RAVENVANITY_FAULT_CODE: return "an unknown path type, presentation or coordinate kind";
     case RAVENVANITY_FAULT_ABSENT: return "a coordinate is absent where it may not be";
     case RAVENVANITY_FAULT_SINE: return "an array with degrees that are not 0 and without their sine and cosine, which ravenvanity_turn gives it";
@@ -431,6 +431,33 @@ static inline void ravenvanity_end_element(struct ravenvanity_sheet *sheet) {
     ravenvanity_put(sheet, 2, 0);
 }
 
+/* Whether there is an element for what is to be added to it. */
+static inline bool ravenvanity_in_element(struct ravenvanity_sheet *sheet) {
+    if (sheet->properties == 0)
+        ravenvanity_fail(sheet, RAVENVANITY_FAULT_TURN);
+    return sheet->fault == RAVENVANITY_NO_FAULT;
+}
+
+/* Flags or a plex number of the element that was added last, behind its kind, which is raised: flags come first. */
+static inline void ravenvanity_set_option(struct ravenvanity_sheet *sheet, uint8_t raise, unsigned bytes, uint32_t number) {
+    size_t start = sheet->cell.starts[sheet->cell.count - 1], at = start + 1;
+    uint8_t kind = sheet->bytes[start];
+    if (raise == RAVENVANITY_WITH_PLEX && (kind & RAVENVANITY_WITH_FLAGS) != 0)
+        at += 2;
+    if ((kind & raise) == 0) {
+        if (!ravenvanity_grow(sheet, bytes))
+            return;
+        memmove(sheet->bytes + at + bytes, sheet->bytes + at, sheet->length - at);
+        sheet->bytes[start] = kind | raise;
+        sheet->properties += bytes;
+        sheet->length += bytes;
+    }
+    size_t end = sheet->length;
+    sheet->length = at;
+    ravenvanity_put(sheet, bytes, number);
+    sheet->length = end;
+}
+
 static inline void ravenvanity_add_shape(struct ravenvanity_sheet *sheet, enum ravenvanity_kind kind, uint64_t layer,
                                          uint64_t data_type, struct ravenvanity_points points) {
     ravenvanity_start_element(sheet, kind);
@@ -536,12 +563,38 @@ static inline void ravenvanity_add_reference(struct ravenvanity_sheet *sheet, st
     ravenvanity_end_element(sheet);
 }
 
-/* One more property of the element that was added last; its value may hold any bytes. */
+/* ---- what every kind of element may have: of the element that was added last */
+
+/* The flags of the manual (ELFLAGS), which may be taken together. */
+enum ravenvanity_flag {
+    RAVENVANITY_TEMPLATE = 1,
+    RAVENVANITY_EXTERNAL = 2
+};
+
+/* Flags that the element has are replaced. The proved functions refuse those above 3. */
+static inline void ravenvanity_set_flags(struct ravenvanity_sheet *sheet, uint64_t flags) {
+    if (!ravenvanity_in_element(sheet))
+        return;
+    if (flags > UINT16_MAX)
+        ravenvanity_fail(sheet, RAVENVANITY_FAULT_NUMBER);
+    else
+        ravenvanity_set_option(sheet, RAVENVANITY_WITH_FLAGS, 2, (uint32_t)flags);
+}
+
+/* The plex number (PLEX), by which elements are grouped. One that the element has is replaced. */
+static inline void ravenvanity_set_plex(struct ravenvanity_sheet *sheet, int64_t plex) {
+    if (!ravenvanity_in_element(sheet))
+        return;
+    if (plex < INT32_MIN || plex > INT32_MAX)
+        ravenvanity_fail(sheet, RAVENVANITY_FAULT_NUMBER);
+    else
+        ravenvanity_set_option(sheet, RAVENVANITY_WITH_PLEX, 4, (uint32_t)plex);
+}
+
+/* One more property; its value may hold any bytes. */
 static inline void ravenvanity_add_property_bytes(struct ravenvanity_sheet *sheet, uint64_t attribute, const void *value,
                                                   size_t length) {
-    if (sheet->properties == 0)
-        ravenvanity_fail(sheet, RAVENVANITY_FAULT_TURN);
-    if (sheet->fault != RAVENVANITY_NO_FAULT)
+    if (!ravenvanity_in_element(sheet))
         return;
     uint8_t *count = sheet->bytes + sheet->properties;
     if (count[0] == 255 && count[1] == 255) {

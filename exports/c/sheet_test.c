@@ -126,6 +126,43 @@ static void add_boxes(struct ravenvanity_sheet *sheet) {
     ravenvanity_add_box(sheet, 0, 65535, left, left);
 }
 
+// Flags and plex number in either order, before and after properties, and set again.
+static void add_with_options(struct ravenvanity_sheet *sheet) {
+    static const int32_t xy[] = {0, 0, 1, 0, 1, 1};
+    const struct ravenvanity_point origin = ravenvanity_integer_xy(0, 0, NM);
+    ravenvanity_add_polygon(sheet, 2, 0, ravenvanity_closed(ravenvanity_integers(xy, 3, NM)));
+    ravenvanity_set_flags(sheet, 0);
+    ravenvanity_set_plex(sheet, 0);
+
+    ravenvanity_add_node(sheet, 2, 0, ravenvanity_integers(xy, 1, NM));
+    ravenvanity_set_plex(sheet, -1);
+
+    ravenvanity_add_path(sheet, ravenvanity_new_path(2, 0, ravenvanity_integers(xy, 2, NM)));
+    ravenvanity_set_plex(sheet, INT32_MAX);
+    ravenvanity_set_flags(sheet, RAVENVANITY_TEMPLATE | RAVENVANITY_EXTERNAL);
+
+    ravenvanity_add_text(sheet, ravenvanity_new_text(2, 0, "VSS", origin));
+    ravenvanity_set_flags(sheet, 65535);
+
+    struct ravenvanity_reference reference = ravenvanity_new_reference("VIA", origin);
+    ravenvanity_add_reference(sheet, reference);
+    ravenvanity_set_plex(sheet, 7);
+    ravenvanity_set_plex(sheet, INT32_MIN);
+
+    reference.columns = 2;
+    reference.column_spacing = ravenvanity_integer_xy(7, 0, NM);
+    ravenvanity_add_reference(sheet, reference);
+    ravenvanity_set_flags(sheet, RAVENVANITY_EXTERNAL);
+    ravenvanity_set_flags(sheet, RAVENVANITY_TEMPLATE);
+
+    ravenvanity_add_box(sheet, 2, 0, origin, ravenvanity_integer_xy(1, 1, NM));
+    ravenvanity_add_property(sheet, 1, "before");
+    ravenvanity_set_plex(sheet, -1);
+    ravenvanity_set_flags(sheet, RAVENVANITY_EXTERNAL);
+    ravenvanity_set_plex(sheet, 16777216);
+    ravenvanity_add_property(sheet, 2, "after");
+}
+
 static struct ravenvanity_sheet cell_sheet(void) {
     static const uint16_t stamps[12] = {2024, 2, 29, 12, 0, 1, 2024, 3, 1, 8, 30, 15};
     struct ravenvanity_sheet sheet = ravenvanity_new_sheet();
@@ -135,6 +172,7 @@ static struct ravenvanity_sheet cell_sheet(void) {
     add_texts(&sheet);
     add_references(&sheet);
     add_boxes(&sheet);
+    add_with_options(&sheet);
     return sheet;
 }
 
@@ -233,6 +271,17 @@ static void test_strings(void) {
     expect("a library's name of 65,535 bytes", RAVENVANITY_NO_FAULT, &sheet);
 }
 
+// A sheet of so many bytes.
+static struct ravenvanity_sheet filled(size_t bytes) {
+    struct ravenvanity_sheet sheet = started();
+    add_node(&sheet);
+    for (int k = 0; k < 255; k++)
+        ravenvanity_add_property(&sheet, 1, LONG + 1);
+    // 20 of pairs, 27 of the head, 43 of the node, 255 properties of 65,539, and a last one that fills the sheet
+    ravenvanity_add_property(&sheet, 1, LONG + 65536 - (bytes - 20 - 27 - 43 - 255 * 65539 - 4));
+    return sheet;
+}
+
 static void test_counts(void) {
     for (int over = 0; over < 2; over++) {
         struct ravenvanity_sheet sheet = started();
@@ -249,12 +298,7 @@ static void test_counts(void) {
         for (int k = 0; k < 16383 + over; k++)
             ravenvanity_start_cell(&sheet, "A", NULL);
         expect("cells", over ? RAVENVANITY_FAULT_BLOCKS : RAVENVANITY_NO_FAULT, &sheet);
-        // 20 of pairs, 27 of the head, 43 of the node, 255 properties of 65,539, and a last one that fills the sheet
-        sheet = started();
-        add_node(&sheet);
-        for (int k = 0; k < 255; k++)
-            ravenvanity_add_property(&sheet, 1, LONG + 1);
-        ravenvanity_add_property(&sheet, 1, LONG + 65536 - (16777216 - 20 - 27 - 43 - 255 * 65539 - 4) - over);
+        sheet = filled(16777216 + over);
         expect("a sheet of 16,777,216 bytes", over ? RAVENVANITY_FAULT_SHEET_SIZE : RAVENVANITY_NO_FAULT, &sheet);
     }
 }
@@ -379,6 +423,39 @@ static void test_boxes(void) {
     expect_box("no second corner", RAVENVANITY_FAULT_ABSENT, ravenvanity_integer_xy(1, 1, NM), none);
 }
 
+static void expect_flags(const char *what, enum ravenvanity_fault fault, struct ravenvanity_sheet sheet, uint64_t flags) {
+    ravenvanity_set_flags(&sheet, flags);
+    expect(what, fault, &sheet);
+}
+
+static void expect_plex(const char *what, enum ravenvanity_fault fault, struct ravenvanity_sheet sheet, int64_t plex) {
+    ravenvanity_set_plex(&sheet, plex);
+    expect(what, fault, &sheet);
+}
+
+static struct ravenvanity_sheet with_node(void) {
+    struct ravenvanity_sheet sheet = started();
+    add_node(&sheet);
+    return sheet;
+}
+
+static void test_options(void) {
+    expect_flags("flags 65,535", RAVENVANITY_NO_FAULT, with_node(), 65535);
+    expect_flags("flags 65,536", RAVENVANITY_FAULT_NUMBER, with_node(), 65536);
+    expect_flags("flags -1", RAVENVANITY_FAULT_NUMBER, with_node(), (uint64_t)-1);
+    expect_plex("plex 2^31 - 1", RAVENVANITY_NO_FAULT, with_node(), INT32_MAX);
+    expect_plex("plex 2^31", RAVENVANITY_FAULT_NUMBER, with_node(), INT64_C(1) << 31);
+    expect_plex("plex -2^31", RAVENVANITY_NO_FAULT, with_node(), INT32_MIN);
+    expect_plex("plex -2^31 - 1", RAVENVANITY_FAULT_NUMBER, with_node(), INT64_C(-2147483649));
+    expect_flags("flags before their element", RAVENVANITY_FAULT_TURN, started(), 65536);
+    expect_plex("a plex number before its element", RAVENVANITY_FAULT_TURN, started(), INT64_C(1) << 31);
+    expect_flags("flags that fill the sheet", RAVENVANITY_NO_FAULT, filled(16777216 - 2), 1);
+    expect_flags("flags beyond the sheet", RAVENVANITY_FAULT_SHEET_SIZE, filled(16777216 - 1), 1);
+    expect_plex("a plex number that fills the sheet", RAVENVANITY_NO_FAULT, filled(16777216 - 4), 1);
+    expect_plex("a plex number beyond the sheet", RAVENVANITY_FAULT_SHEET_SIZE, filled(16777216 - 3), 1);
+    expect_plex("a plex number beyond the sheet without its pairs", RAVENVANITY_FAULT_SHEET_SIZE, filled(16777216 + 20), 1);
+}
+
 static void test_turns(void) {
     struct ravenvanity_sheet sheet = ravenvanity_new_sheet();
     expect("nothing", RAVENVANITY_FAULT_TURN, &sheet);
@@ -402,6 +479,9 @@ static void test_turns(void) {
     ravenvanity_start_cell(&sheet, "B", NULL);
     ravenvanity_add_property(&sheet, 1, "");
     expect("a property of the cell before", RAVENVANITY_FAULT_TURN, &sheet);
+    sheet = library_sheet();
+    ravenvanity_start_cell(&sheet, "B", NULL);
+    expect_flags("flags of the cell before", RAVENVANITY_FAULT_TURN, sheet, 1);
 }
 
 static void test_end(void) {
@@ -410,6 +490,9 @@ static void test_end(void) {
         miss("two ends", ravenvanity_fault_words(sheet.fault));
     ravenvanity_add_property(&sheet, 1, "");
     expect("a property after the end", RAVENVANITY_FAULT_TURN, &sheet);
+    sheet = cell_sheet();
+    ravenvanity_finish(&sheet);
+    expect_plex("a plex number after the end", RAVENVANITY_FAULT_TURN, sheet, 1);
     sheet = library_sheet();
     ravenvanity_finish(&sheet);
     ravenvanity_start_cell(&sheet, "A", NULL);
@@ -466,6 +549,7 @@ int main(void) {
     test_sines();
     test_codes();
     test_boxes();
+    test_options();
     test_turns();
     test_end();
     test_place();

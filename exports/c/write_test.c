@@ -1,5 +1,5 @@
-// A test of ravenvanity_write.h, of the lines of ravenvanity_report.h, and of what boxes are written as. Prints nothing on standard
-// output; status 1 where something is not as it must be.
+// A test of ravenvanity_write.h, of the lines of ravenvanity_report.h, and of what boxes, flags and plex numbers are written as.
+// Prints nothing on standard output; status 1 where something is not as it must be.
 #include "ravenvanity_report.h"
 #include "ravenvanity_sheet.h"
 #include <math.h>
@@ -56,9 +56,10 @@ static void test_entries(void) {
                (struct ravenvanity_entry){0, 2, 2, 2, 2, 0, 0, NAN, 0, INFINITY});
     test_entry("element 0 (box): 10 values affected, worst point 2 y: p 42.5, q 45, error 2.5 above",
                (struct ravenvanity_entry){RAVENVANITY_NO_CELL, 0, 6, 0, 1, 2, 10, 42.5, 45, 2.5});
-    for (uint8_t kind = 0; kind <= 7; kind += 7)
+    static const uint8_t unknown[] = {0, 7, 17, 54}; // the last two as sheets have kinds with flags and plex numbers
+    for (size_t k = 0; k < sizeof unknown; k++)
         test_entry("element 0 (unknown kind): 0 values affected, worst unknown field unknown axis: p -0, q 0, error inf below",
-                   (struct ravenvanity_entry){RAVENVANITY_NO_CELL, 0, kind, 9, 3, 1, 0, -0.0, 0, -INFINITY});
+                   (struct ravenvanity_entry){RAVENVANITY_NO_CELL, 0, unknown[k], 9, 3, 1, 0, -0.0, 0, -INFINITY});
 }
 
 static void test_side(const char *wanted, double error) {
@@ -134,6 +135,7 @@ static void test_lines(void) {
     char line[RAVENVANITY_WORDS_ROOM];
     hold_text("refusal 21: the output is too short for what is to be written", ravenvanity_refusal_line(21, 0, line, sizeof line), line);
     test_line("refusal 18, block 2", 18, 2);
+    test_line("refusal 26, block 1", 26, 1);
     test_line("refusal 5, block 0", 5, 0);
     test_line("refusal 6, block 0", 6, 0);
     test_line("refusal 7, block 0", 7, 0);
@@ -306,6 +308,106 @@ static void test_box_refusals(void) {
     refused_box("y2", written_box(1, 0, (const double[]){0, 0, over - 1, NAN}), 17);
 }
 
+// ---- flags and plex numbers
+
+typedef void adder(struct ravenvanity_sheet *);
+
+static const double OFF_GRID[] = {0.5, 0, 4, 0, 4, 4};
+
+static void add_polygon(struct ravenvanity_sheet *sheet) {
+    ravenvanity_add_polygon(sheet, 1, 0, ravenvanity_closed(ravenvanity_doubles(OFF_GRID, 3, 1)));
+}
+
+static void add_path(struct ravenvanity_sheet *sheet) {
+    ravenvanity_add_path(sheet, ravenvanity_new_path(1, 0, ravenvanity_doubles(OFF_GRID, 2, 1)));
+}
+
+static void add_text(struct ravenvanity_sheet *sheet) {
+    ravenvanity_add_text(sheet, ravenvanity_new_text(1, 0, "VDD", ravenvanity_double_xy(0.5, 0, 1)));
+}
+
+static void add_off_grid_node(struct ravenvanity_sheet *sheet) {
+    add_node(sheet, 0.5);
+}
+
+static void add_reference(struct ravenvanity_sheet *sheet) {
+    ravenvanity_add_reference(sheet, ravenvanity_new_reference("B", ravenvanity_double_xy(0.5, 0, 1)));
+}
+
+static void add_array(struct ravenvanity_sheet *sheet) {
+    struct ravenvanity_reference array = ravenvanity_new_reference("B", ravenvanity_double_xy(0.5, 0, 1));
+    array.columns = 4;
+    array.column_spacing = ravenvanity_double_xy(10.5, 0, 1);
+    ravenvanity_add_reference(sheet, array);
+}
+
+static void add_box(struct ravenvanity_sheet *sheet) {
+    ravenvanity_add_box(sheet, 1, 0, ravenvanity_double_xy(0.5, 0, 1), ravenvanity_double_xy(4, 4, 1));
+}
+
+// A cell of one element; flags and a plex number that are NULL are not there.
+static struct ravenvanity_written written_with(adder *add, const uint64_t *flags, const int64_t *plex) {
+    struct ravenvanity_sheet sheet = ravenvanity_new_sheet();
+    ravenvanity_start_cell(&sheet, "A", NULL);
+    add(&sheet);
+    if (flags != NULL)
+        ravenvanity_set_flags(&sheet, *flags);
+    if (plex != NULL)
+        ravenvanity_set_plex(&sheet, *plex);
+    hold("a cell sheet with flags and a plex number", ravenvanity_finish(&sheet) == RAVENVANITY_NO_FAULT);
+    return written(ravenvanity_write_new_cell, sheet, RAVENVANITY_NEAREST);
+}
+
+// These bytes behind the element's first record are all that is written besides what is without them; the report is the same.
+static void hold_options(const char *what, struct ravenvanity_written plain, struct ravenvanity_written to, const uint8_t *bytes,
+                         size_t length) {
+    const size_t first = 28 + 6 + 4; // BGNSTR, STRNAME, the first record
+    hold(what, plain.bytes != NULL && to.bytes != NULL && to.length == plain.length + length);
+    if (to.bytes != NULL && to.length == plain.length + length) {
+        hold(what, memcmp(to.bytes, plain.bytes, first) == 0 && memcmp(to.bytes + first, bytes, length) == 0);
+        hold(what, memcmp(to.bytes + first + length, plain.bytes + first, plain.length - first) == 0);
+        hold(what, to.entries == 1 && plain.entries == 1 && memcmp(to.report, plain.report, RAVENVANITY_ENTRY_LENGTH) == 0);
+    }
+    ravenvanity_free_written(&plain);
+    ravenvanity_free_written(&to);
+}
+
+static void test_options_of(const char *what, adder *add) {
+    static const uint8_t elflags[] = {0, 6, 0x26, 1, 0, 3}, plex[] = {0, 8, 0x2f, 3, 0xff, 0xff, 0xff, 0xfe};
+    static const uint8_t both[] = {0, 6, 0x26, 1, 0, 0, 0, 8, 0x2f, 3, 0, 0, 0, 0};
+    const uint64_t three = 3, no_flags = 0;
+    const int64_t below = -2, zero = 0;
+    hold_options(what, written_with(add, NULL, NULL), written_with(add, &three, NULL), elflags, sizeof elflags);
+    hold_options(what, written_with(add, NULL, NULL), written_with(add, NULL, &below), plex, sizeof plex);
+    hold_options(what, written_with(add, NULL, NULL), written_with(add, &no_flags, &zero), both, sizeof both);
+}
+
+static void test_options(void) {
+    test_options_of("a polygon with flags or a plex number", add_polygon);
+    test_options_of("a path with flags or a plex number", add_path);
+    test_options_of("a text with flags or a plex number", add_text);
+    test_options_of("a node with flags or a plex number", add_off_grid_node);
+    test_options_of("a reference with flags or a plex number", add_reference);
+    test_options_of("an array with flags or a plex number", add_array);
+    test_options_of("a box with flags or a plex number", add_box);
+}
+
+static void add_layer_256(struct ravenvanity_sheet *sheet) {
+    ravenvanity_add_node(sheet, 256, 0, ravenvanity_doubles(OFF_GRID, 1, 1));
+}
+
+static void refused_flags(uint64_t flags, uint8_t number) {
+    refused("flags before a layer", written_with(add_layer_256, &flags, NULL), number, RAVENVANITY_NO_CELL, 1);
+}
+
+static void test_flags_refusals(void) {
+    refused_flags(3, 9);
+    refused_flags(4, 26);
+    refused_flags(0x0100, 26);
+    refused_flags(0x8000, 26);
+    refused_flags(65535, 26);
+}
+
 int main(void) {
     test_entries();
     test_sides();
@@ -318,5 +420,7 @@ int main(void) {
     test_box_bytes();
     test_box_entries();
     test_box_refusals();
+    test_options();
+    test_flags_refusals();
     return missed != 0;
 }

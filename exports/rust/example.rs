@@ -20,18 +20,18 @@ fn array() -> Cell {
     cell
 }
 
-/// Polygons, a text and a box, the die's area, in micrometres, a path in nanometres.
+/// Polygons of one plex, a text and a box, the die's area, which is template data, in micrometres, a path in nanometres.
 fn shapes() -> Cell {
     let squares = [[[0.0, 0.0], [2.0, 0.0], [2.0, 2.0], [0.0, 2.0]], [[3.0, 0.0], [5.0004, 0.0], [5.0004, 2.0], [3.0, 2.0]]];
     let mut cell = Cell::new("SHAPES");
     for square in &squares {
-        cell.add(Polygon::new(1, 0, closed(doubles(square, 1e-6))));
+        cell.add(Polygon::new(1, 0, closed(doubles(square, 1e-6)))).plex(1);
     }
     let wire = Path::new(2, 0, integers(&[[0, 1000], [5000, 1000], [5000, 4000]], 1e-9));
     cell.add(Path { path_type: Some(PathType::Round), width: Some(Coordinate::double(0.1803, 1e-6)), ..wire });
     let text = Text::new(63, 0, "VDD", Point::double(1.0, 1.0, 1e-6));
     cell.add(Text { vertical: Vertical::Middle, horizontal: Horizontal::Centre, ..text }).property(1, "power");
-    cell.add(GdsBox::new(235, 0, Point::double(0.0, 0.0, 1e-6), Point::double(6.0002, 4.0, 1e-6)));
+    cell.add(GdsBox::new(235, 0, Point::double(0.0, 0.0, 1e-6), Point::double(6.0002, 4.0, 1e-6))).flags(flag::TEMPLATE);
     cell
 }
 

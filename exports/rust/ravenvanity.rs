@@ -1,8 +1,8 @@
 //! The proved GDSII writer of cells and libraries, lengths within bounds and the pitch survey, for Rust. Document 01 has the
-//! cell sheet, the refusals and the report entry, document 02 the library sheet, the sign of an entry's error, boxes, the bounds
-//! and the survey (its requests 1, 2, 3, 11 and 12). docs/FORMAT.md has both sheets, what is written and the report entries
-//! byte by byte. `ravenvanity_sheet.rs` makes sheets, and `ravenvanity_report.rs` reads reports and tells refusals in words;
-//! neither is proved. The borrow checker sees to what the C interface asks: no null pointer and no overlap.
+//! cell sheet, the refusals and the report entry, document 02 the library sheet, the sign of an entry's error, boxes, flags and
+//! plex numbers, the bounds and the survey (its requests 1, 2, 3, 5, 11 and 12). docs/FORMAT.md has both sheets, what is written
+//! and the report entries byte by byte. `ravenvanity_sheet.rs` makes sheets, and `ravenvanity_report.rs` reads reports and tells
+//! refusals in words; neither is proved. The borrow checker sees to what the C interface asks: no null pointer and no overlap.
 #![allow(dead_code)] // a program uses what it needs of this
 
 /// The bytes of one report entry.
@@ -63,11 +63,13 @@ pub mod refusal {
     pub const LIBRARY_FORM: u8 = 23;
     pub const LIBRARY_UNITS: u8 = 24;
     pub const LIBRARY_NAME: u8 = 25;
+    pub const FLAGS: u8 = 26;
     pub const BOUNDS: u8 = 32;
     pub const SURVEY_COUNT: u8 = 33;
 }
 
-/// The kinds of elements, on sheets and in report entries.
+/// The kinds of elements, on sheets and in report entries. On a sheet the kind is raised by `WITH_FLAGS` where flags follow it
+/// and by `WITH_PLEX` where a plex number does; a report entry has it without.
 pub mod kind {
     pub const POLYGON: u8 = 1;
     pub const PATH: u8 = 2;
@@ -75,6 +77,8 @@ pub mod kind {
     pub const NODE: u8 = 4;
     pub const REFERENCE: u8 = 5;
     pub const BOX: u8 = 6;
+    pub const WITH_FLAGS: u8 = 16;
+    pub const WITH_PLEX: u8 = 32;
 }
 
 /// A refusal's number, one of those in `refusal`, and the block it is about (0 if none).

@@ -1,11 +1,14 @@
 //! What to expect of a writer for an input: gdsr's answer, or that of a check which the documents add.
 use crate::answer::{
-    Answer, GdsrCell, Pairs, angles_of, gdsr_answer, gdsr_cell, gdsr_element, gdsr_library, gdsr_library_head, number_of,
-    policy_of, refused,
+    Answer, GdsrCell, GdsrElement, Pairs, angles_of, gdsr_answer, gdsr_cell, gdsr_element, gdsr_library, gdsr_library_head,
+    number_of, policy_of, refused,
 };
 use crate::input::{Input, Job};
 use crate::pairs;
 use crate::sheet::{self, Body};
+
+/// The manual has two flags, of the values 1 and 2.
+const MAX_FLAGS: u16 = 3;
 
 /// Where an expected answer comes from.
 pub enum Expected {
@@ -62,13 +65,16 @@ fn refused_by_15(with_own: &sheet::Element, d: f64, policy: u8, k: usize) -> Exp
     }
 }
 
-/// The elements up to the first that is ill-formed or that gdsr cannot be given.
-fn elements_until(blocks: &[&[u8]], d: f64, policy: u8, pairs: &mut Pairs) -> (Vec<gdsr::Element>, Option<Expected>) {
+/// The elements up to the first that is ill-formed, that has other flags than the manual's or that gdsr cannot be given.
+fn elements_until(blocks: &[&[u8]], d: f64, policy: u8, pairs: &mut Pairs) -> (Vec<GdsrElement>, Option<Expected>) {
     let mut elements = Vec::new();
     for (k, block) in blocks.iter().enumerate().skip(1) {
         let Some(element) = sheet::element_of(block) else {
             return (elements, Some(Expected::Added(refused(5, k))));
         };
+        if element.options.flags.is_some_and(|flags| flags > MAX_FLAGS) {
+            return (elements, Some(Expected::Added(refused(26, k))));
+        }
         if let Some(with_own) = beyond_one(&element) {
             return (elements, Some(refused_by_15(&with_own, d, policy, k)));
         }

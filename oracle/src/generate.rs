@@ -2,8 +2,8 @@
 use crate::input::{Input, Job};
 use crate::random::{Random, stepped};
 use crate::sheet::{
-    Body, Coordinate, Element, Head, LibraryHead, Place, Property, Turn, element_block, head_block, head_of, library_head_block,
-    sheet_of,
+    Body, Coordinate, Element, Head, LibraryHead, Options, Place, Property, Turn, body_start, element_block, head_block, head_of,
+    kind_of, library_head_block, sheet_of,
 };
 use gdsr::Radians;
 
@@ -21,6 +21,8 @@ struct Maker<'a> {
     any_pair: bool,
     /// The last coordinate that was made anew.
     last: Option<Coordinate>,
+    /// Elements of the cell have flags and plex numbers.
+    options: bool,
 }
 
 const TINY: f64 = f64::from_bits(1);
@@ -579,6 +581,32 @@ impl Maker<'_> {
         Body::Box { layer: self.number(), box_type: self.number(), first, second }
     }
 
+    fn flags(&mut self) -> u16 {
+        // few elements have flags, so more of them are beyond the limit
+        if self.random.often(4 * self.wild) {
+            return self.random.pick(&[4, 5, 7, 0x0100, 0x0103, 0x4000, 0x8000, 0xc000, 65_535]);
+        }
+        self.random.below(4) as u16
+    }
+
+    fn plex(&mut self) -> i32 {
+        match self.random.below(3) {
+            0 => self.random.pick(&[0, 1, -1, i32::MAX, i32::MAX - 1, i32::MIN, i32::MIN + 1]),
+            // about the 24 bits of the manual
+            1 => self.random.pick(&[0x00ff_ffff, 0x0100_0000, 0x0100_0001, -0x00ff_ffff, -0x0100_0000, 0x007f_ffff, 0x0080_0000]),
+            _ => self.random.next() as i32,
+        }
+    }
+
+    /// Flags, a plex number or both, in a fifth of the elements.
+    fn options(&mut self) -> Options {
+        if !self.options || !self.random.often(200) {
+            return Options::default();
+        }
+        let (flags, plex) = self.random.pick(&[(true, false), (false, true), (true, true)]);
+        Options { flags: flags.then(|| self.flags()), plex: plex.then(|| self.plex()) }
+    }
+
     fn element(&mut self) -> Element {
         let body = match self.random.below(7) {
             0 => self.shape(1),
@@ -588,7 +616,7 @@ impl Maker<'_> {
             4 => self.gds_box(),
             _ => self.reference(),
         };
-        Element { body, properties: self.properties() }
+        Element { options: self.options(), body, properties: self.properties() }
     }
 
     fn stamp(&mut self) -> [u16; 6] {
@@ -633,8 +661,9 @@ impl Maker<'_> {
         Head { name: self.name(), stamps }
     }
 
-    /// The head and so many elements.
+    /// The head and so many elements, in half of the cells with options.
     fn cell(&mut self, count: usize) -> Vec<Vec<u8>> {
+        self.options = self.random.often(500);
         let mut blocks = vec![head_block(&self.head())];
         for _ in 0..count {
             blocks.push(element_block(&self.element()));
@@ -706,11 +735,11 @@ fn encodable(random: &mut Random) -> f64 {
 fn damage(random: &mut Random, blocks: &mut Vec<Vec<u8>>) -> Vec<u8> {
     let k = random.below(blocks.len());
     let length = blocks[k].len();
-    match random.below(13) {
+    match random.below(14) {
         0 => blocks[k].push(random.next() as u8),
         1 => blocks[k].truncate(length - 1),
         2 => blocks[k].truncate(random.below(length)),
-        3 => blocks[k][0] = random.pick(&[0, 1, 2, 3, 4, 5, 6, 7, 255]),
+        3 => blocks[k][0] = random.pick(&[0, 1, 2, 3, 4, 5, 6, 7, 16, 23, 32, 39, 48, 55, 255]),
         4 | 5 => blocks[k][random.below(length)] ^= 1 << random.below(8),
         6 => blocks[k][random.below(length)] = random.pick(&[0, 1, 2, 3, 127, 128, 255]),
         7 => {
@@ -722,6 +751,7 @@ fn damage(random: &mut Random, blocks: &mut Vec<Vec<u8>>) -> Vec<u8> {
             blocks.push(other);
         }
         10 => without_coordinate(random, &mut blocks[k]),
+        11 => raised(random, &mut blocks[k]),
         _ => return damaged_bytes(random, sheet_of(blocks)),
     }
     sheet_of(blocks)
@@ -729,19 +759,37 @@ fn damage(random: &mut Random, blocks: &mut Vec<Vec<u8>>) -> Vec<u8> {
 
 /// An absent coordinate in an element's points, origin or corners, where none may be absent; a head has none.
 fn without_coordinate(random: &mut Random, block: &mut [u8]) {
-    let two = |at: usize| usize::from(u16::from_be_bytes([block[at], block[at + 1]]));
-    let (first, count) = match block[0] {
-        1 | 4 => (7, 2 * two(5)),
-        2 => (59, 2 * two(57)),
-        3 => (24, 2),
-        5 => (44 + two(1), 2),
-        6 => (5, 4),
+    let (kind, start) = (kind_of(block[0]), body_start(block[0]));
+    let body = &mut block[start..];
+    let two = |at: usize| usize::from(u16::from_be_bytes([body[at], body[at + 1]]));
+    let (first, count) = match kind {
+        1 | 4 => (6, 2 * two(4)),
+        2 => (58, 2 * two(56)),
+        3 => (23, 2),
+        5 => (43 + two(0), 2),
+        6 => (4, 4),
         _ => return,
     };
     if count > 0 {
         let at = first + 17 * random.below(count);
-        block[at] = 2;
-        block[at + 1..at + 17].fill(0);
+        body[at] = 2;
+        body[at + 1..at + 17].fill(0);
+    }
+}
+
+/// A kind byte that says other options, or that is above all: and nothing else, the block cut within its options, or options
+/// that fit the byte.
+fn raised(random: &mut Random, block: &mut Vec<u8>) {
+    let start = body_start(block[0]);
+    block[0] ^= random.pick(&[16, 32, 48, 64, 128]);
+    let wanted = body_start(block[0]);
+    match random.below(3) {
+        0 => block.truncate(random.between(1, wanted)),
+        1 => {
+            let bytes: Vec<u8> = (1..wanted).map(|_| random.pick(&[0, 0, 0, 1, 2, 3, 4, 128, 255])).collect();
+            block.splice(1..start, bytes);
+        }
+        _ => {}
     }
 }
 
@@ -814,7 +862,7 @@ fn maker(random: &mut Random, policy: u8, d: f64, any_pair: bool) -> Maker<'_> {
     let wild = random.pick(&[0, 0, 0, 0, 0, 12, 12, 40, 250]);
     let on_grid = random.often(if policy == 3 { 850 } else { 150 });
     let d = if d.is_finite() && d > 0.0 { d } else { 1.0 };
-    Maker { random, d, wild, on_grid, near: false, any_pair, last: None }
+    Maker { random, d, wild, on_grid, near: false, any_pair, last: None, options: false }
 }
 
 pub fn input(random: &mut Random, any_pair: bool) -> Input {

@@ -1,6 +1,6 @@
 //! The elements of the benchmarks.
 use crate::random::Random;
-use crate::sheet::{self, Body, Coordinate, Element, Place, Property, Turn};
+use crate::sheet::{self, Body, Coordinate, Element, Options, Place, Property, Turn};
 
 pub const D: f64 = 1e-9;
 const MICRO: f64 = 1e-6;
@@ -42,8 +42,13 @@ fn closed(count: usize, mut coordinate: impl FnMut() -> Coordinate) -> Vec<Place
     points
 }
 
+/// Without properties, and without flags and plex number, which gdsr has not.
+fn plain(body: Body) -> Element {
+    Element { options: Options::default(), body, properties: vec![] }
+}
+
 fn polygon(points: Vec<Place>) -> Element {
-    Element { body: Body::Shape { kind: 1, layer: 1, data_type: 2, points }, properties: vec![] }
+    plain(Body::Shape { kind: 1, layer: 1, data_type: 2, points })
 }
 
 /// Of 8,191 points; which coordinate stands where goes by its number, from 0.
@@ -64,8 +69,7 @@ pub fn small_polygon(random: &mut Random, coordinate: fn(&mut Random) -> Coordin
 /// Its corners off the grid, the second anywhere beside the first.
 pub fn gds_box(random: &mut Random) -> Element {
     let mut corner = || [off_grid(random), off_grid(random)];
-    let body = Body::Box { layer: 7, box_type: 8, first: corner(), second: corner() };
-    Element { body, properties: vec![] }
+    plain(Body::Box { layer: 7, box_type: 8, first: corner(), second: corner() })
 }
 
 pub fn turned_array(random: &mut Random) -> Element {
@@ -76,8 +80,7 @@ pub fn turned_array(random: &mut Random) -> Element {
     let (origin, spacings) = (place(1e3), [Some(place(10.0)), Some(place(10.0))]);
     let counts = [2 + random.below(100) as u32, 2 + random.below(100) as u32];
     let turn = Turn { reflection: false, magnification: 1.5, degrees };
-    let body = Body::Reference { name: b"CALLED".to_vec(), counts, turn, pair: [sine, cosine], origin, spacings };
-    Element { body, properties: vec![] }
+    plain(Body::Reference { name: b"CALLED".to_vec(), counts, turn, pair: [sine, cosine], origin, spacings })
 }
 
 pub fn text(random: &mut Random) -> Element {
@@ -85,14 +88,13 @@ pub fn text(random: &mut Random) -> Element {
     let turn = Turn { reflection: true, magnification: 2.0, degrees: 90.0 };
     let origin = [off_grid(random), off_grid(random)];
     let body = Body::Text { layer: 3, text_type: 4, presentation: [1, 2], turn, origin, value: b"a label of a pin".to_vec() };
-    Element { body, properties: vec![property(1), property(2), property(3)] }
+    Element { properties: vec![property(1), property(2), property(3)], ..plain(body) }
 }
 
 fn path(random: &mut Random) -> Element {
     let width = Some(Coordinate::Double { value: 0.25, unit: MICRO });
     let points = (0..20).map(|_| [integer(random), integer(random)]).collect();
-    let body = Body::Path { layer: 5, data_type: 6, path_type: Some(1), lengths: [width, None, None], points };
-    Element { body, properties: vec![] }
+    plain(Body::Path { layer: 5, data_type: 6, path_type: Some(1), lengths: [width, None, None], points })
 }
 
 pub fn mixed_element(random: &mut Random, index: usize) -> Element {

@@ -65,8 +65,16 @@ pub struct Turn {
     pub degrees: f64,
 }
 
+/// What an element may have besides, of every kind: flags (ELFLAGS) and a plex number (PLEX).
+#[derive(Clone, Copy, Debug, Default)]
+pub struct Options {
+    pub flags: Option<u16>,
+    pub plex: Option<i32>,
+}
+
 #[derive(Clone, Debug)]
 pub struct Element {
+    pub options: Options,
     pub body: Body,
     pub properties: Vec<Property>,
 }
@@ -82,6 +90,42 @@ pub struct LibraryHead {
     pub name: Vec<u8>,
     pub user_unit: f64,
     pub stamps: [u16; 12],
+}
+
+// ---- kinds
+
+/// What a kind byte is raised by where flags follow it, and where a plex number does.
+const WITH_FLAGS: u8 = 16;
+const WITH_PLEX: u8 = 32;
+
+impl Body {
+    pub const fn kind(&self) -> u8 {
+        match self {
+            Self::Shape { kind, .. } => *kind,
+            Self::Path { .. } => 2,
+            Self::Text { .. } => 3,
+            Self::Reference { .. } => 5,
+            Self::Box { .. } => 6,
+        }
+    }
+}
+
+/// The kind of a kind byte, without what it is raised by; no element has one outside 1 to 6.
+pub const fn kind_of(byte: u8) -> u8 {
+    byte & !(WITH_FLAGS | WITH_PLEX)
+}
+
+const fn has_flags(byte: u8) -> bool {
+    byte & WITH_FLAGS != 0
+}
+
+const fn has_plex(byte: u8) -> bool {
+    byte & WITH_PLEX != 0
+}
+
+/// Where the body of a block with this kind byte starts: after the byte and the options.
+pub const fn body_start(byte: u8) -> usize {
+    1 + if has_flags(byte) { 2 } else { 0 } + if has_plex(byte) { 4 } else { 0 }
 }
 
 // ---- writing
@@ -155,21 +199,27 @@ pub fn library_head_block(head: &LibraryHead) -> Vec<u8> {
     block
 }
 
-/// The kind byte, the layer and the type.
-fn put_kind(block: &mut Vec<u8>, kind: u8, layer: u16, data_type: u16) {
-    block.push(kind);
+/// The kind byte and the options, flags first.
+fn put_kind(block: &mut Vec<u8>, kind: u8, options: Options) {
+    let raised = |by, there: bool| if there { by } else { 0 };
+    block.push(kind + raised(WITH_FLAGS, options.flags.is_some()) + raised(WITH_PLEX, options.plex.is_some()));
+    block.extend(options.flags.map(u16::to_be_bytes).iter().flatten());
+    block.extend(options.plex.map(i32::to_be_bytes).iter().flatten());
+}
+
+fn put_layer(block: &mut Vec<u8>, layer: u16, data_type: u16) {
     block.extend(layer.to_be_bytes());
     block.extend(data_type.to_be_bytes());
 }
 
 fn put_body(block: &mut Vec<u8>, body: &Body) {
     match body {
-        Body::Shape { kind, layer, data_type, points } => {
-            put_kind(block, *kind, *layer, *data_type);
+        Body::Shape { layer, data_type, points, .. } => {
+            put_layer(block, *layer, *data_type);
             put_points(block, points);
         }
         Body::Path { layer, data_type, path_type, lengths, points } => {
-            put_kind(block, 2, *layer, *data_type);
+            put_layer(block, *layer, *data_type);
             block.push(path_type.unwrap_or(255));
             for length in lengths {
                 put_coordinate(block, *length);
@@ -177,14 +227,13 @@ fn put_body(block: &mut Vec<u8>, body: &Body) {
             put_points(block, points);
         }
         Body::Text { layer, text_type, presentation, turn, origin, value } => {
-            put_kind(block, 3, *layer, *text_type);
+            put_layer(block, *layer, *text_type);
             block.extend(presentation);
             put_turn(block, turn);
             put_place(block, Some(*origin));
             put_string(block, value);
         }
         Body::Reference { name, counts, turn, pair, origin, spacings } => {
-            block.push(5);
             put_string(block, name);
             block.extend(counts.map(u32::to_be_bytes).as_flattened());
             put_turn(block, turn);
@@ -194,7 +243,7 @@ fn put_body(block: &mut Vec<u8>, body: &Body) {
             }
         }
         Body::Box { layer, box_type, first, second } => {
-            put_kind(block, 6, *layer, *box_type);
+            put_layer(block, *layer, *box_type);
             put_place(block, Some(*first));
             put_place(block, Some(*second));
         }
@@ -203,6 +252,7 @@ fn put_body(block: &mut Vec<u8>, body: &Body) {
 
 pub fn element_block(element: &Element) -> Vec<u8> {
     let mut block = Vec::new();
+    put_kind(&mut block, element.body.kind(), element.options);
     put_body(&mut block, &element.body);
     block.extend((element.properties.len() as u16).to_be_bytes());
     for property in &element.properties {
@@ -265,6 +315,14 @@ impl<'a> Reader<'a> {
             *number = self.two()?;
         }
         Some(stamps)
+    }
+
+    /// The kind and the options that its byte says are there.
+    fn kind(&mut self) -> Option<(u8, Options)> {
+        let byte = self.byte()?;
+        let flags = if has_flags(byte) { Some(self.two()?) } else { None };
+        let plex = if has_plex(byte) { Some(self.four()?.cast_signed()) } else { None };
+        Some((kind_of(byte), Options { flags, plex }))
     }
 
     fn at_most(&mut self, greatest: u8) -> Option<u8> {
@@ -355,9 +413,9 @@ pub fn library_head_of(block: &[u8]) -> Option<LibraryHead> {
     reader.whole(head)
 }
 
-fn body_of(reader: &mut Reader) -> Option<Body> {
-    match reader.byte()? {
-        kind @ (1 | 4) => Some(Body::Shape { kind, layer: reader.two()?, data_type: reader.two()?, points: reader.points()? }),
+fn body_of(kind: u8, reader: &mut Reader) -> Option<Body> {
+    match kind {
+        1 | 4 => Some(Body::Shape { kind, layer: reader.two()?, data_type: reader.two()?, points: reader.points()? }),
         2 => Some(Body::Path {
             layer: reader.two()?,
             data_type: reader.two()?,
@@ -392,7 +450,8 @@ fn body_of(reader: &mut Reader) -> Option<Body> {
 
 pub fn element_of(block: &[u8]) -> Option<Element> {
     let mut reader = Reader(block);
-    let body = body_of(&mut reader)?;
+    let (kind, options) = reader.kind()?;
+    let body = body_of(kind, &mut reader)?;
     let properties = reader.properties()?;
-    reader.whole(Element { body, properties })
+    reader.whole(Element { options, body, properties })
 }

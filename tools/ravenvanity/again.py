@@ -147,6 +147,7 @@ FACTS = {
     13: transform_words,
     14: transform_words,
     15: lambda e: f"sine {double_text(e.sine)}, cosine {double_text(e.cosine)}",
+    26: lambda e: f"the flags are {e.flags} (0x{e.flags:04x})",
 }
 
 

@@ -140,22 +140,26 @@ def a_double(tokens):
     return double(tokens[1], tokens[0])
 
 
-def a_code(most):
+def a_number(least, most):
     def read(tokens):
         arity(tokens, 1)
-        return number(tokens[1], 0, most, tokens[0])
+        return number(tokens[1], least, most, tokens[0])
     return read
 
 
-TURNED = {"at": ("origin", a_point), "reflection": ("reflection", a_code(1)), "magnification": ("magnification", a_double),
+# flags above 3 are refused, but a sheet can have them
+OPTIONS = {"flags": ("flags", a_number(0, 65535)), "plex": ("plex", a_number(-2**31, 2**31 - 1))}
+CODE = a_number(0, 2)
+TURNED = {"at": ("origin", a_point), "reflection": ("reflection", a_number(0, 1)), "magnification": ("magnification", a_double),
           "degrees": ("degrees", a_double)}
+# of each kind its lines that stand once at most, in the order in which they are written
 DETAILS = {
-    "polygon": {},
-    "node": {},
-    "path": {"pathtype": ("path_type", a_code(2)), "width": ("width", a_length), "begin": ("begin", a_length), "end": ("end", a_length)},
-    "text": {**TURNED, "vertical": ("vertical", a_code(2)), "horizontal": ("horizontal", a_code(2))},
-    "reference": {**TURNED, "column": ("column", a_spacing), "row": ("row", a_spacing), "sine": ("sine", a_double), "cosine": ("cosine", a_double)},
-    "box": {"first": ("first", a_point), "second": ("second", a_point)},
+    "polygon": OPTIONS,
+    "node": OPTIONS,
+    "path": {**OPTIONS, "pathtype": ("path_type", CODE), "width": ("width", a_length), "begin": ("begin", a_length), "end": ("end", a_length)},
+    "text": {**OPTIONS, **TURNED, "vertical": ("vertical", CODE), "horizontal": ("horizontal", CODE)},
+    "reference": {**OPTIONS, **TURNED, "column": ("column", a_spacing), "row": ("row", a_spacing), "sine": ("sine", a_double), "cosine": ("cosine", a_double)},
+    "box": {**OPTIONS, "first": ("first", a_point), "second": ("second", a_point)},
 }
 NEEDED = {"text": ("at",), "reference": ("at",), "box": ("first", "second")}  # lines that must be there
 LINES = {"point", "property", *(word for lines in DETAILS.values() for word in lines)}

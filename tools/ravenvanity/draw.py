@@ -4,11 +4,11 @@ The y axis points upwards, and a grey cross marks the origin. Layers have colour
 A path has its width, which is magnified with its structure unless it is negative; path type 1 ends round, 2 square, all
 others flat; a path of width 0, or with none, is a thin line. Extensions of paths are not drawn. A text is its string at its
 place, in letters of one size, not turned; a node is a dot at each point; a box is its outline in a line of two pixels, not
-filled as polygons are; a polygon or a box without extent is a cross. A called structure that is in the file is drawn in its
-place: reflected, magnified, turned, then moved; of two of one name the first is meant. Where it is not in the file, or calls
-itself, an instance is a cross with its name, and an array the outlines of its instances: each is the field that one column
-step and one row step span, with a dot at the instance's place. An array of one row or column has no second step, and its
-fields are square.
+filled as polygons are; a polygon or a box without extent is a cross. ELFLAGS and PLEX change nothing in the picture. A called
+structure that is in the file is drawn in its place: reflected, magnified, turned, then moved; of two of one name the first
+is meant. Where it is not in the file, or calls itself, an instance is a cross with its name, and an array the outlines of
+its instances: each is the field that one column step and one row step span, with a dot at the instance's place. An array of
+one row or column has no second step, and its fields are square.
 
 The picture's own numbers are pixels from its corner, so that a browser draws a plate of decimetres as well as a contact.
 The work is bounded: an array of more than 1,024 instances is one outline with its counts, a call more than 64 deep is a

@@ -15,9 +15,9 @@ TABLE = {
         "reflection), an integer whose four upper bytes are not zero, a coordinate absent where it may not be, or absent but not zero bytes", "first in its block", ANY),
     6: (DESIGNER, "a stamp is no date and time of the years 1 to 9999, and the twelve numbers are not all zero", "in the head, after its 5", HEAD),
     7: (DESIGNER, "a structure name is not 1 to 32 of A-Z a-z 0-9 _ ? $: in block 0 the cell's own, else the called one",
-        "in the head after 6; in a reference first after its 5", ANY),
-    8: (DESIGNER, "the point count: a polygon has 4 to 8,191, a path 2 to 8,191, a node 1 to 50", "in a polygon, path or node first after its 5", ELEMENT),
-    9: (DESIGNER, "a layer or type is above 255 (a text's type is not limited)", "after 8; in a text or a box first after its 5", ELEMENT),
+        "in the head after 6; in a reference first after its 5 and 26", ANY),
+    8: (DESIGNER, "the point count: a polygon has 4 to 8,191, a path 2 to 8,191, a node 1 to 50", "in a polygon, path or node first after its 5 and 26", ELEMENT),
+    9: (DESIGNER, "a layer or type is above 255 (a text's type is not limited)", "after 8; in a text or a box first after its 5 and 26", ELEMENT),
     10: (DESIGNER, "a string is too long: a text has at most 512 bytes, a property value at most 65,530",
          "in a text after 9; a property value last of all in its element", ELEMENT),
     11: (DESIGNER, "columns or rows are outside 1 to 32,767", "in a reference after 7", ELEMENT),
@@ -39,6 +39,7 @@ TABLE = {
     24: (f"{DESIGNER}, for d {CALLER}", "the user unit is not finite and positive, or no eight-byte real equals it or d: below 2^-260, or from 2^252",
          "of a library alone: after 6 of the library's stamps", ONCE),
     25: (DESIGNER, "the library's name is over 65,530 bytes", "of a library alone: after 24, before every cell", ONCE),
+    26: (DESIGNER, "an element's flags are above 3", "in an element directly after its 5", ELEMENT),
     32: (CALLER, "the lower end is above the upper, or the policy is strict and the ends are not equal",
          "of two bounds alone: after 17 of an end that is not finite, before the ends' other checks", NO_CELL),
     33: (CALLER, "the number of places is not 1 to 65,536", "of a pitch survey alone: after 2, before 17 of a pitch that is not finite", NO_CELL),
@@ -46,7 +47,7 @@ TABLE = {
 
 
 OF_LIBRARY = (1, 2, 3, 6, 21, 22, 23, 24, 25)  # those that come outside a cell
-OF_CELL = range(4, 21)
+OF_CELL = (*range(4, 21), 26)
 LIBRARY_ORDER = {4: "first in its cell, which comes after 25 and after the whole of every cell before it", 21: "after every cell has passed"}
 
 

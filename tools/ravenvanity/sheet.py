@@ -1,6 +1,7 @@
-"""The cell sheet of document 01 ("Input") with the boxes of document 02, request 3, and the library sheet of its request 1: their form, read and written. docs/FORMAT.md has them byte by byte.
+"""The cell sheet of document 01 ("Input") with the boxes of document 02, request 3, and the flags and plex numbers of its request 5, and the library sheet of its request 1: their form, read and written. docs/FORMAT.md has them byte by byte.
 
-A cell is a name, twelve stamp numbers and elements; a library is a name, a user unit, twelve stamp numbers and cells.
+A cell is a name, twelve stamp numbers and elements; a library is a name, a user unit, twelve stamp numbers and cells. An
+element's kind is told without its options, flags and plex number; each of them is None where it is absent, which 0 is not.
 Doubles are kept as 64-bit patterns, so that a NaN keeps its bits and a sheet that is read and written again is the same
 bytes. Reading raises Ill with the byte where the form fails.
 """
@@ -11,6 +12,7 @@ from . import progress
 
 INTEGER, DOUBLE, ABSENT = range(3)
 POLYGON, PATH, TEXT, NODE, REFERENCE, BOX = range(1, 7)
+WITH_FLAGS, WITH_PLEX = 16, 32  # what raises the kind byte where flags, where a plex number follow it
 NO_PATH_TYPE = 255
 MAX_PAIRS = 16384
 LIBRARY_HEAD = 34  # bytes of a library's block 0 beside its name
@@ -19,11 +21,18 @@ Library = namedtuple("Library", "name unit stamps cells")
 Cell = namedtuple("Cell", "name stamps elements")
 Coordinate = namedtuple("Coordinate", "kind value unit")
 Property = namedtuple("Property", "attribute value")
-Shape = namedtuple("Shape", "kind layer type points properties")
-Path = namedtuple("Path", "kind layer type path_type width begin end points properties")
-Text = namedtuple("Text", "kind layer type vertical horizontal reflection magnification degrees origin string properties")
-Reference = namedtuple("Reference", "kind name columns rows reflection magnification degrees sine cosine origin column row properties")
-Box = namedtuple("Box", "kind layer type first second properties")
+
+
+def element_tuple(name, fields):
+    """One of the elements, all of which end alike; both options may be missing."""
+    return namedtuple(name, f"kind {fields} properties flags plex", defaults=(None, None))
+
+
+Shape = element_tuple("Shape", "layer type points")
+Path = element_tuple("Path", "layer type path_type width begin end points")
+Text = element_tuple("Text", "layer type vertical horizontal reflection magnification degrees origin string")
+Reference = element_tuple("Reference", "name columns rows reflection magnification degrees sine cosine origin column row")
+Box = element_tuple("Box", "layer type first second")
 
 NOTHING = Coordinate(ABSENT, 0, 0)
 
@@ -67,8 +76,8 @@ class Reader:
         self.at += count
         return self.data[self.at - count:self.at]
 
-    def number(self, size, what):
-        return int.from_bytes(self.take(size, what), "big")
+    def number(self, size, what, signed=False):
+        return int.from_bytes(self.take(size, what), "big", signed=signed)
 
     def code(self, allowed, what):
         value = self.number(1, what)
@@ -166,6 +175,22 @@ def box_form(r, kind):
 FORMS = {POLYGON: shape_form, PATH: path_form, TEXT: text_form, NODE: shape_form, REFERENCE: reference_form, BOX: box_form}
 
 
+def kind_of(byte):
+    """The kind that a kind byte has without what raises it; none where the byte is unknown."""
+    kind = byte & ~(WITH_FLAGS | WITH_PLEX)
+    return kind if kind in FORMS else None
+
+
+def element_form(r):
+    byte = r.number(1, "the element kind")
+    kind = kind_of(byte)
+    if kind is None:
+        raise r.ill(f"element kind {byte} is unknown: it is 1 to 6, raised by {WITH_FLAGS} with flags and by {WITH_PLEX} with a plex number", r.at - 1)
+    flags = r.number(2, "the flags") if byte & WITH_FLAGS else None
+    plex = r.number(4, "the plex number", signed=True) if byte & WITH_PLEX else None
+    return FORMS[kind](r, kind)._replace(flags=flags, plex=plex)
+
+
 def read_pairs(sheet):
     """(offset, length) of each block of a sheet; refusal 4 where they are ill-formed, of a library's sheet 23."""
     if len(sheet) < 4:
@@ -194,8 +219,7 @@ def read_head(sheet, pair):
 
 def read_element(sheet, pair, block):
     r = Reader(sheet, pair[0], sum(pair), block)
-    kind = r.code(FORMS, "element kind")
-    return r.done(FORMS[kind](r, kind))
+    return r.done(element_form(r))
 
 
 def read_sheet(sheet):
@@ -257,24 +281,34 @@ def library_head_bytes(name, unit, stamps):
     return string_bytes(name) + struct.pack(">Q12H", unit, *stamps)
 
 
+def kind_bytes(e):
+    """The kind byte, and the options that it is raised for."""
+    byte, options = e.kind, b""
+    if e.flags is not None:
+        byte, options = byte | WITH_FLAGS, struct.pack(">H", e.flags)
+    if e.plex is not None:
+        byte, options = byte | WITH_PLEX, options + struct.pack(">i", e.plex)
+    return bytes([byte]) + options
+
+
 def body_bytes(e):
     if e.kind in (POLYGON, NODE):
-        return struct.pack(">BHH", e.kind, e.layer, e.type) + points_bytes(e.points)
+        return struct.pack(">HH", e.layer, e.type) + points_bytes(e.points)
     if e.kind == BOX:
-        return struct.pack(">BHH", e.kind, e.layer, e.type) + point_bytes(e.first) + point_bytes(e.second)
+        return struct.pack(">HH", e.layer, e.type) + point_bytes(e.first) + point_bytes(e.second)
     if e.kind == PATH:
         lengths = b"".join(map(coordinate_bytes, (e.width, e.begin, e.end)))
-        return struct.pack(">BHHB", e.kind, e.layer, e.type, e.path_type) + lengths + points_bytes(e.points)
+        return struct.pack(">HHB", e.layer, e.type, e.path_type) + lengths + points_bytes(e.points)
     if e.kind == TEXT:
-        return struct.pack(">BHHBBBQQ", e.kind, e.layer, e.type, e.vertical, e.horizontal, e.reflection, e.magnification,
+        return struct.pack(">HHBBBQQ", e.layer, e.type, e.vertical, e.horizontal, e.reflection, e.magnification,
                            e.degrees) + point_bytes(e.origin) + string_bytes(e.string)
-    return (bytes([e.kind]) + string_bytes(e.name)
+    return (string_bytes(e.name)
             + struct.pack(">IIBQQQQ", e.columns, e.rows, e.reflection, e.magnification, e.degrees, e.sine, e.cosine)
             + point_bytes(e.origin) + point_bytes(e.column) + point_bytes(e.row))
 
 
 def element_bytes(e):
-    return body_bytes(e) + properties_bytes(e.properties)
+    return kind_bytes(e) + body_bytes(e) + properties_bytes(e.properties)
 
 
 def sheet_of_blocks(blocks):

@@ -1,10 +1,10 @@
 """A GDSII structure or library file, and report entries, as readable text.
 
-A structure is read by the grammar of document 01 ("What a structure draws") with the BOX of document 02, request 3; a library
-file is HEADER, BGNLIB, LIBNAME, UNITS, structures, ENDLIB. Each record gets a line: the byte where it starts, its name, and
-what it holds. Eight-byte reals are written as exact decimals, long ones of UNITS as the shortest decimal of the double. Zero
-bytes after ENDLIB are no damage: a line says how many. The lines that the program `structure` prints, and a stored
-library's, are read too.
+A structure is read by the grammar of document 01 ("What a structure draws") with the BOX of document 02, request 3, and the
+ELFLAGS and PLEX of its request 5; a library file is HEADER, BGNLIB, LIBNAME, UNITS, structures, ENDLIB. Each record gets a
+line: the byte where it starts, its name, and what it holds. Eight-byte reals are written as exact decimals, long ones of
+UNITS as the shortest decimal of the double. Zero bytes after ENDLIB are no damage: a line says how many. The lines that the
+program `structure` prints, and a stored library's, are read too.
 Of an entry's error the magnitude is told, and on which side of the physical value the database value lies: above or below.
 Entries, and a greatest error, that this writer never gives are turned back with their place.
 """
@@ -23,23 +23,26 @@ RECORDS = {
     0x0a: ("SREF", 0, 0), 0x0b: ("AREF", 0, 0), 0x0c: ("TEXT", 0, 0), 0x0d: ("LAYER", 2, 2), 0x0e: ("DATATYPE", 2, 2),
     0x0f: ("WIDTH", 3, 4), 0x10: ("XY", 3, -8), 0x11: ("ENDEL", 0, 0), 0x12: ("SNAME", 6, None), 0x13: ("COLROW", 2, 4),
     0x15: ("NODE", 0, 0), 0x16: ("TEXTTYPE", 2, 2), 0x17: ("PRESENTATION", 1, 2), 0x19: ("STRING", 6, None), 0x1a: ("STRANS", 1, 2),
-    0x1b: ("MAG", 5, 8), 0x1c: ("ANGLE", 5, 8), 0x21: ("PATHTYPE", 2, 2), 0x2a: ("NODETYPE", 2, 2), 0x2b: ("PROPATTR", 2, 2),
-    0x2c: ("PROPVALUE", 6, None), 0x2d: ("BOX", 0, 0), 0x2e: ("BOXTYPE", 2, 2), 0x30: ("BGNEXTN", 3, 4), 0x31: ("ENDEXTN", 3, 4),
+    0x1b: ("MAG", 5, 8), 0x1c: ("ANGLE", 5, 8), 0x21: ("PATHTYPE", 2, 2), 0x26: ("ELFLAGS", 1, 2), 0x2a: ("NODETYPE", 2, 2),
+    0x2b: ("PROPATTR", 2, 2), 0x2c: ("PROPVALUE", 6, None), 0x2d: ("BOX", 0, 0), 0x2e: ("BOXTYPE", 2, 2), 0x2f: ("PLEX", 3, 4),
+    0x30: ("BGNEXTN", 3, 4), 0x31: ("ENDEXTN", 3, 4),
 }
 # those that stand in a library file beside its structures'
 LIBRARY_RECORDS = {0x00: ("HEADER", 2, 2), 0x01: ("BGNLIB", 2, 24), 0x02: ("LIBNAME", 6, None), 0x03: ("UNITS", 5, 16), 0x04: ("ENDLIB", 0, 0)}
 HEADER = 0x00
+OPTIONS = ["ELFLAGS?", "PLEX?"]
 TRANSFORM = ["STRANS?", "MAG?", "ANGLE?"]
-# the records of each element, `?` where one may be missing; properties and ENDEL follow
+# the records of each element after its first, `?` where one may be missing; properties and ENDEL follow
 ELEMENTS = {
-    "BOUNDARY": ["LAYER", "DATATYPE", "XY"],
-    "NODE": ["LAYER", "NODETYPE", "XY"],
-    "PATH": ["LAYER", "DATATYPE", "PATHTYPE?", "WIDTH?", "BGNEXTN?", "ENDEXTN?", "XY"],
-    "TEXT": ["LAYER", "TEXTTYPE", "PRESENTATION?", *TRANSFORM, "XY", "STRING"],
-    "SREF": ["SNAME", *TRANSFORM, "XY"],
-    "AREF": ["SNAME", *TRANSFORM, "COLROW", "XY"],
-    "BOX": ["LAYER", "BOXTYPE", "XY"],
+    "BOUNDARY": [*OPTIONS, "LAYER", "DATATYPE", "XY"],
+    "NODE": [*OPTIONS, "LAYER", "NODETYPE", "XY"],
+    "PATH": [*OPTIONS, "LAYER", "DATATYPE", "PATHTYPE?", "WIDTH?", "BGNEXTN?", "ENDEXTN?", "XY"],
+    "TEXT": [*OPTIONS, "LAYER", "TEXTTYPE", "PRESENTATION?", *TRANSFORM, "XY", "STRING"],
+    "SREF": [*OPTIONS, "SNAME", *TRANSFORM, "XY"],
+    "AREF": [*OPTIONS, "SNAME", *TRANSFORM, "COLROW", "XY"],
+    "BOX": [*OPTIONS, "LAYER", "BOXTYPE", "XY"],
 }
+FLAGS = {1: "template", 2: "external", 3: "template, external"}  # by the manual's two bits
 POINTS = {"TEXT": 1, "SREF": 1, "AREF": 3}
 KINDS = {1: "polygon", 2: "path", 3: "text", 4: "node", 5: "reference", 6: "box"}
 KIND_OF = {"BOUNDARY": 1, "PATH": 2, "TEXT": 3, "NODE": 4, "SREF": 5, "AREF": 5, "BOX": 6}
@@ -109,6 +112,11 @@ def presentation(data):
     return f"{value} (vertical {value >> 2 & 3}, horizontal {value & 3})"
 
 
+def element_flags(data):
+    value = int.from_bytes(data, "big")
+    return f"{value} ({FLAGS[value]})" if value in FLAGS else str(value)
+
+
 def words_of(name, data):
     if name in ("BGNSTR", "BGNLIB"):
         return stamp(data)
@@ -119,6 +127,8 @@ def words_of(name, data):
     if name == "COLROW":
         columns, rows = struct.unpack(">HH", data)
         return f"{many(columns, 'column')}, {many(rows, 'row')}"
+    if name == "ELFLAGS":
+        return element_flags(data)
     if name == "PRESENTATION":
         return presentation(data)
     if name == "STRANS":
@@ -127,7 +137,7 @@ def words_of(name, data):
         return decimal(real8(data))
     if name in ("LIBNAME", "STRNAME", "SNAME", "STRING", "PROPVALUE"):
         return quoted(data)
-    if name in ("WIDTH", "BGNEXTN", "ENDEXTN"):
+    if name in ("PLEX", "WIDTH", "BGNEXTN", "ENDEXTN"):
         return str(longs(data)[0])
     return str(int.from_bytes(data, "big")) if data else ""
 

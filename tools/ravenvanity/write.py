@@ -12,13 +12,13 @@ def accepted_words(length, entries, greatest):
 
 
 def block_words(sheet, number, block):
-    """Where in a cell sheet a refusal is; the kind is told as the block's first byte has it."""
+    """Where in a cell sheet a refusal is; the kind is told as the block's first byte has it, without its options."""
     if number in NO_BLOCK:
         return []
     if not block:
         return ["block 0 (the head)"]
     try:
-        kind = KINDS.get(sheet[form.read_pairs(sheet)[block][0]])
+        kind = KINDS.get(form.kind_of(sheet[form.read_pairs(sheet)[block][0]]))
     except (form.Ill, IndexError):
         kind = None
     return [f"block {block} (element {block - 1}{f', a {kind}' if kind else ''})"]

@@ -25,7 +25,7 @@ back n h = toZ-ofZ {w = w32} {z = toZ w32 n} (sfits-toZ {w = w32} {n = n} (recor
 -- ---- the lower four of eight bytes
 
 -- four bytes make a number below 2 ^ 32
-four-small : (s : List ℕ) (at : ℕ) → at + 4 ≤ length s → Bytes s → numberAt 4 s at < 4294967296
+pub four-small : (s : List ℕ) (at : ℕ) → at + 4 ≤ length s → Bytes s → numberAt 4 s at < 4294967296
 four-small s at h b =
     omega (arith, number-four s at h, number-two s at (omega arith), number-two s (at + 2) (omega arith), b at, b (at + 1), b (at + 2), b (at + 2 + 1))
 

@@ -1,14 +1,16 @@
 // Where the parts of a block stand, and what stands at a place. Nothing is copied: what comes after reads the parts by place. Whether the block is well formed is asked by the crate `forms`.
 ghost use mathlib.Core.Path.{_≡_};
+ghost use mathlib.Core.Bool.{cond};
 ghost use Prim.Native.Nat.{_+_, _≤_};
 ghost use lib.Dec.{eqb};
-ghost use lib.ListN.{length};
+ghost use lib.ListN.{length, drop};
 ghost use mir.Syntax.{w64};
 ghost use mir.Val.{Fits};
 ghost use Rattle.big_endian.specs.Big.{numberAt};
 ghost use Rattle.sheet.specs.Form.{absentKind};
+ghost use Rattle.sheet.specs.Element.{plainKind};
 ghost use Rattle.block_places.specs.code.Place.{wordEnd, doubleAt, unitAt, stringAt, stringEnd, maxWord, shapePointsPlace, pathPointsPlace, stringBytesPlace, boxEndPlace, afterNameLength, coordinateLength};
-ghost use Rattle.block_places.specs.code.Places.{pointsEnd, shapePlaces, pathPlaces, textPlaces, referencePlaces, boxPlaces, bodyPlaces, bodyEnd, elementPlaces};
+ghost use Rattle.block_places.specs.code.Places.{pointsEnd, shapePlaces, pathPlaces, textPlaces, referencePlaces, boxPlaces, bodyPlaces, bodyEnd, bodyEndIn, sizeIf, shiftOf, optionsAt, shifted, elementPlaces};
 
 // The kind byte of a coordinate.
 pub const INTEGER: u8 = 0;
@@ -31,7 +33,7 @@ pub const POINT: usize = 34;
 // The bytes of a string's length, of a property's attribute and of a count.
 pub const NUMBER: usize = 2;
 
-// The kind byte of an element, which is the kind in its report entry too.
+// The kind byte of an element that has no options.
 pub const POLYGON: u8 = 1;
 
 pub const PATH: u8 = 2;
@@ -44,12 +46,24 @@ pub const REFERENCE: u8 = 5;
 
 pub const BOX: u8 = 6;
 
+// "A kind byte raised by 16 is followed by 2 bytes of flags; raised by 32, by 4 bytes of signed plex number": the kind itself is below FLAGS, and with both below KINDS.
+pub const FLAGS: u8 = 16;
+
+pub const PLEX: u8 = 32;
+
+pub const KINDS: u8 = 64;
+
+// The bytes of the two, after the kind byte.
+pub const FLAGS_SIZE: usize = 2;
+
+pub const PLEX_SIZE: usize = 4;
+
 // "path type byte (0, 1, 2; 255 absent)", "reflection (0 or 1)".
 pub const NO_PATH_TYPE: u8 = 255;
 
 pub const REFLECTED: u8 = 1;
 
-// Where the parts stand in the block of an element: each where the one before it ends, the first after the kind byte.
+// Where the parts stand in the block of an element that has no options: each where the one before it ends, the first after the kind byte.
 // Polygon, node, path, text and box.
 pub const LAYER: usize = 1;
 
@@ -209,8 +223,18 @@ pub struct PropertyPlaces {
     pub place: usize,
 }
 
-// An element: its body, and its properties.
+// The flags and the plex number of an element, this as its four bytes stand, 0 where they are absent; and how many bytes they take in its block.
+pub struct Options {
+    pub flagged: bool,
+    pub flags: u16,
+    pub plexed: bool,
+    pub plex: u32,
+    pub shift: usize,
+}
+
+// An element: its options, and its body and its properties in the block that is left without them.
 pub struct ElementPlaces {
+    pub options: Options,
     pub body: BodyPlaces,
     pub properties: PropertyPlaces,
 }
@@ -354,14 +378,86 @@ pub fn box_places(b: &[u8]) -> BoxPlaces
     }
 }
 
-// ---- the parts of an element
+// ---- the options
 
-// The body by the block's kind byte, which in a well-formed block is one of the six.
-fn body_places(b: &[u8]) -> BodyPlaces
-    requires { ⌜ bodyEnd (now b) (bodyPlaces (now b)) ≤ length (now b) ⌝ }
-    ensures { λ r. ⌜ r ≡ bodyPlaces (now (b .entry)) ⌝ }
+// The size of a part that may be absent.
+pub fn size_if(there: bool, size: usize) -> usize
+    ensures { λ r. ⌜ (r ≡ sizeIf there size) × (r ≤ size) ⌝ }
+{
+    if there {
+        return size;
+    }
+    0
+}
+
+// The bytes of the options after a kind byte.
+pub fn shift_of(kind: u8) -> usize
+    ensures { λ r. ⌜ (r ≡ shiftOf kind) × (r ≤ 6) ⌝ }
+{
+    let flags = size_if(kind / FLAGS % 2 == 1, FLAGS_SIZE);
+    flags + size_if(kind / PLEX % 2 == 1, PLEX_SIZE)
+}
+
+fn flags_at(b: &[u8], flagged: bool) -> u16
+    requires { ⌜ 1 + sizeIf flagged 2 ≤ length (now b) ⌝ }
+    ensures { λ r. ⌜ r ≡ cond flagged (numberAt 2 (now (b .entry)) 1) 0 ⌝ }
+{
+    if flagged {
+        return big_endian::u16_at(b, 1);
+    }
+    0
+}
+
+fn plex_at(b: &[u8], at: usize, plexed: bool) -> u32
+    requires { ⌜ at + sizeIf plexed 4 ≤ length (now b) ⌝ }
+    ensures { λ r. ⌜ r ≡ cond plexed (numberAt 4 (now (b .entry)) at) 0 ⌝ }
+{
+    if plexed {
+        return big_endian::u32_at(b, at);
+    }
+    0
+}
+
+pub fn options_at(b: &[u8]) -> Options
+    requires { ⌜ 1 + shiftOf (numberAt 1 (now b) 0) ≤ length (now b) ⌝ }
+    ensures { λ r. ⌜ r ≡ optionsAt (now (b .entry)) ⌝ }
 {
     let kind = big_endian::u8_at(b, 0);
+    let flagged = kind / FLAGS % 2 == 1;
+    let plexed = kind / PLEX % 2 == 1;
+    let place = 1 + size_if(flagged, FLAGS_SIZE);
+    Options {
+        flagged,
+        flags: flags_at(b, flagged),
+        plexed,
+        plex: plex_at(b, place, plexed),
+        shift: shift_of(kind),
+    }
+}
+
+// The kind of an element without its additions, which is the kind in its report entry, too.
+pub fn plain_kind(b: &[u8]) -> u8
+    requires { ⌜ 1 ≤ length (now b) ⌝ }
+    ensures { λ r. ⌜ r ≡ plainKind (numberAt 1 (now (b .entry)) 0) ⌝ }
+{
+    big_endian::u8_at(b, 0) % FLAGS
+}
+
+// A block from a place on.
+pub fn block_from(b: &[u8], at: usize) -> &[u8]
+    requires { ⌜ at ≤ length (now b) ⌝ }
+    ensures { λ r. ⌜ now r ≡ drop at (now (b .entry)) ⌝ }
+{
+    &b[at..]
+}
+
+// ---- the parts of an element
+
+// The body by its kind, which in a well-formed block is one of the six.
+fn body_places(b: &[u8], kind: u8) -> BodyPlaces
+    requires { ⌜ bodyEnd (now b) (bodyPlaces kind (now b)) ≤ length (now b) ⌝ }
+    ensures { λ r. ⌜ r ≡ bodyPlaces kind (now (b .entry)) ⌝ }
+{
     if kind == POLYGON {
         return BodyPlaces::Polygon {
             shape: shape_places(b),
@@ -417,15 +513,21 @@ fn body_end(b: &[u8], body: BodyPlaces) -> usize
 
 // The parts of an element whose block is well formed: its form is not looked at.
 pub fn element_places(b: &[u8]) -> ElementPlaces
-    requires { ⌜ wordEnd (now b) (bodyEnd (now b) (bodyPlaces (now b))) ≤ length (now b) ⌝ }
+    requires { ⌜ wordEnd (now b) (bodyEndIn (now b)) ≤ length (shifted (now b)) ⌝ }
     ensures { λ r. ⌜ r ≡ elementPlaces (now (b .entry)) ⌝ }
 {
-    let body = body_places(b);
-    let end = body_end(b, body);
+    let options = options_at(b);
+    let rest = block_from(b, options.shift);
+    let body = body_places(rest, plain_kind(b));
+    let end = body_end(rest, body);
     let place = end + NUMBER;
     let properties = PropertyPlaces {
-        count: big_endian::u16_at(b, end) as usize,
+        count: big_endian::u16_at(rest, end) as usize,
         place,
     };
-    ElementPlaces { body, properties }
+    ElementPlaces {
+        options,
+        body,
+        properties,
+    }
 }

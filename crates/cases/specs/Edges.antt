@@ -85,14 +85,14 @@ noStamps = 0 ∷ 0 ∷ 0 ∷ 0 ∷ 0 ∷ 0 ∷ 0 ∷ 0 ∷ 0 ∷ 0 ∷ 0 ∷ 0 �
 unfoldable pub pair : Cell
 pair = record {
   head = record { name = 0x41 ∷ []; stamps = noStamps };
-  elements = record { body = S.node (record { layer = 0; datatype = 0; points = at (pos 1) (pos 5) ∷ at (pos 2) (pos 5) ∷ [] }); properties = [] } ∷ [];
+  elements = record { flags = none; plex = none; body = S.node (record { layer = 0; datatype = 0; points = at (pos 1) (pos 5) ∷ at (pos 2) (pos 5) ∷ [] }); properties = [] } ∷ [];
 }
 
 abbrev drawnAt : List (Point ℤ) → D.Structure
 drawnAt ps = record {
   stamps = noStamps;
   name = 0x41 ∷ 0 ∷ [];
-  elements = record { body = D.node (record { layer = 0; datatype = 0; points = ps }); properties = [] } ∷ [];
+  elements = record { flags = none; plex = none; body = D.node (record { layer = 0; datatype = 0; points = ps }); properties = [] } ∷ [];
 }
 
 -- as nearest writes it in the database unit 2: 0.5 and 1 both to 1, 2.5 to 3

@@ -1,4 +1,4 @@
--- One below, at and above each limit that a sheet puts on a record (document 02, request 8), by hand. Assumes nothing.
+-- One below, at and above each limit that a sheet puts on a record (document 02, requests 5 and 8), by hand. Assumes nothing.
 use mathlib.Core.Option.{Option, none, some}
 use mathlib.Core.List.{List, [], _∷_, _++_}
 use Prim.Native.Nat.{ℕ, zero, suc, _-_, _^_}
@@ -6,7 +6,7 @@ use lib.IntN.{ℤ, pos, negsuc}
 use Rattle.big_endian.specs.Big.{bytesOf}
 use Rattle.refusal.specs.declared.Refusal.{Refusal}
 use Rattle.units.specs.Point.{Point}
-use Rattle.stream.specs.Record.{Rec, STRNAME, BOUNDARY, PATH, SREF, AREF, TEXT, NODE, BOX, LAYER, DATATYPE, NODETYPE, TEXTTYPE, BOXTYPE, PATHTYPE, PRESENTATION, SNAME, STRING, STRANS, MAG, ANGLE, WIDTH, PROPATTR, PROPVALUE}
+use Rattle.stream.specs.Record.{Rec, STRNAME, BOUNDARY, PATH, SREF, AREF, TEXT, NODE, BOX, LAYER, DATATYPE, NODETYPE, TEXTTYPE, BOXTYPE, ELFLAGS, PLEX, PATHTYPE, PRESENTATION, SNAME, STRING, STRANS, MAG, ANGLE, WIDTH, PROPATTR, PROPVALUE}
 use Rattle.stream.specs.Records.{emptyRecord, wordRecord, bitsRecord, longRecord, realRecord, stringRecord, xyRecord, colrowRecord, stampsRecord}
 use Rattle.reading.specs.Limits.{sheetLimits}
 
@@ -87,6 +87,10 @@ rows =
     ∷ row BOX 0 (wordRecord LAYER 255) none ∷ row BOX 0 (wordRecord LAYER 256) (some 9)
     ∷ row BOX 0 (wordRecord BOXTYPE 255) none ∷ row BOX 0 (wordRecord BOXTYPE 256) (some 9) ∷ row BOX 0 (wordRecord BOXTYPE 65535) (some 9)
     ∷ row TEXT 0 (wordRecord TEXTTYPE 65535) none
+    -- 26; every plex number passes
+    ∷ row BOUNDARY 0 (bitsRecord ELFLAGS 0) none ∷ row PATH 0 (bitsRecord ELFLAGS 2) none ∷ row TEXT 0 (bitsRecord ELFLAGS 3) none ∷ row TEXT 0 (bitsRecord ELFLAGS 4) (some 26)
+    ∷ row NODE 0 (bitsRecord ELFLAGS 3) none ∷ row NODE 0 (bitsRecord ELFLAGS 4) (some 26) ∷ row SREF 0 (bitsRecord ELFLAGS 256) (some 26) ∷ row AREF 0 (bitsRecord ELFLAGS 0x8000) (some 26) ∷ row BOX 0 (bitsRecord ELFLAGS 65535) (some 26)
+    ∷ row BOX 0 (longRecord PLEX (pos 0)) none ∷ row PATH 0 (longRecord PLEX (pos 16777216)) none ∷ row TEXT 0 (longRecord PLEX (pos 2147483647)) none ∷ row NODE 0 (longRecord PLEX (negsuc 2147483647)) none
     -- 28: values that the sheet has no code for
     ∷ row PATH 0 (wordRecord PATHTYPE 0) none ∷ row PATH 0 (wordRecord PATHTYPE 2) none ∷ row PATH 0 (wordRecord PATHTYPE 3) (some 28) ∷ row PATH 0 (wordRecord PATHTYPE 255) (some 28)
     ∷ row TEXT 0 (bitsRecord PRESENTATION 0) none ∷ row TEXT 0 (bitsRecord PRESENTATION 2) none ∷ row TEXT 0 (bitsRecord PRESENTATION 3) (some 28)

@@ -349,9 +349,14 @@ module _ (policy : GdsRoundingPolicy) (d : Float) (fd : T (fits binary64 d)) (pd
   pub element-written : (e : S.Element) (w : D.Said) → FineElement e → Yields (writeElement policy d e) w → Written e w
   unfolding writeElement
   element-written e w h y =
-      let k1 = steps y in
+      let k = checked _ y in
+      let k1 = steps (k .then) in
       let k2 = steps (k1 .then) in
       let b = body-written (e .body) (k1 .value) (h .body) (k1 .first) in
       let qs = properties-alike (e .properties) (k2 .value) (h .properties .each) (k2 .first) in
       subst (λ (z : D.Said). Written e z) (made-yields (k2 .then))
-      (record { alike = record { body = b .alike; properties = qs .alike }; taken = b .taken; fit = record { body = b .fit; properties = qs .fit } })
+      (record {
+        alike = record { flags = refl; plex = refl; body = b .alike; properties = qs .alike };
+        taken = b .taken;
+        fit = record { flags = h .flags; plex = h .plex; body = b .fit; properties = qs .fit };
+      })

@@ -1,11 +1,11 @@
--- What a step of writing an element gives, whatever the step: refused, a refusal of the designer's, 7 to 20 (`designer`); not refused, deviations that are q × d − p of their own p and q, and count (`told`). Assumes nothing.
+-- What a step of writing an element gives, whatever the step: refused, a refusal of the designer's, 7 to 20 or 26 (`designer`); not refused, deviations that are q × d − p of their own p and q, and count (`told`). Assumes nothing.
 use mathlib.Core.Path.{_≡_, refl, ap, subst}
-use mathlib.Core.Bool.{Bool, true, false, _&&_, cond}
+use mathlib.Core.Bool.{Bool, true, false, _&&_, _||_, cond}
 use mathlib.Core.Option.{Option, none, some}
 use mathlib.Core.List.{List, [], _∷_, _++_}
 use Prim.Native.Nat.{ℕ, suc}
 use native.Mathlib.Omega.{arith}
-use lib.Dec.{T, leb}
+use lib.Dec.{T, leb, eqb}
 use lib.IntN.{ℤ}
 use lib.Ieee.{Float, binary64, eq, fits}
 use Rattle.binary64.specs.Value.{zero64, one64}
@@ -31,7 +31,7 @@ use Rattle.cell.specs.Write.{layerAndType, writeProperties, encodable, w
 
 -- "Designer: .." and, of the head alone, 6
 abbrev pub Designer : Refusal → Type 0
-Designer r = T (leb 7 (number r) && leb (number r) 20)
+Designer r = T (leb 7 (number r) && leb (number r) 20 || eqb (number r) 26)
 
 module _ (d : Float) where
   -- ---- steps, in the database unit d
@@ -263,7 +263,7 @@ module _ (d : Float) where
     body-lawful (S.reference e) = reference-lawful e
     body-lawful (S.box e) = bind (box-lawful e) (λ w. plain)
 
-    -- AN ELEMENT: refused by 7 to 20 alone, and its deviations are told
+    -- AN ELEMENT: refused by 7 to 20 and 26 alone, and its deviations are told
     pub element-lawful : (e : S.Element) → Lawful (writeElement policy d e)
     unfolding writeElement
-    element-lawful e = bind (body-lawful (e .body)) (λ b. bind (properties-lawful (e .properties)) (λ qs. plain))
+    element-lawful e = then (test _ _ tt) (bind (body-lawful (e .body)) (λ b. bind (properties-lawful (e .properties)) (λ qs. plain)))

@@ -49,7 +49,7 @@ writeOne i kind (refused r) others = stopped r (suc i)
 writeOne i kind (made w vs) others = inFront w (entryOf i kind vs) others
 
 module _ (policy : GdsRoundingPolicy) (d : Float) where
-  -- "form first", then the element's own order
+  -- "form first", then the element's own order; "The report shows the kind without these additions" (document 02, request 5)
   unfoldable pub writeBlock : ℕ → Option Element → Result (List Said) → Result (List Said)
   writeBlock i none others = stopped R.Form (suc i)
   writeBlock i (some e) others = writeOne i (kindOf (e .body)) (writeElement policy d e) others

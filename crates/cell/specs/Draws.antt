@@ -1,4 +1,4 @@
--- What it is that bytes draw a sheet's cell, read by the manual's grammar (document 01, "What a structure draws"; boxes: document 02, request 3; the bounds are demand 3's own). It knows nothing of a writer.
+-- What it is that bytes draw a sheet's cell, read by the manual's grammar (document 01, "What a structure draws"; boxes: document 02, request 3; flags and plex numbers: its request 5; the bounds are demand 3's own). It knows nothing of a writer.
 -- `scaled x` is the whole number x * 2 ^ 1074 of a double. Bounds are stated over these, multiplied out by d and 2 ^ 22. Assumes nothing.
 use mathlib.Core.Path.{_≡_}
 use mathlib.Core.Bool.{Bool}
@@ -161,7 +161,10 @@ module _ (policy : GdsRoundingPolicy) (d : Float) where
     aref : {e : S.Reference} {w : D.Aref Transform} → AlikeAref e w → AlikeBody (S.reference e) (D.aref w)
     box : {e : S.Box} {w : D.Shape} → AlikeBox e w → AlikeBody (S.box e) (D.box w)
 
+  -- "what is promised of a drawn cell includes both: absent alike, else equal"
   pub record AlikeElement (e : S.Element) (w : Worth) : Type 0 where
+    pub flags : e .flags ≡ w .flags
+    pub plex : e .plex ≡ w .plex
     pub body : AlikeBody (e .body) (w .body)
     pub properties : Each AlikeProperty (e .properties) (w .properties)
 

@@ -1,4 +1,4 @@
--- The limits of sheet and structure (document 01, "Result one", the paragraph that begins "Transform", and "Who can cause which refusal"; write/validation.rs). Assumes nothing.
+-- The limits of sheet and structure (document 01, "Result one", the paragraph that begins "Transform", and "Who can cause which refusal"; document 02, request 5; write/validation.rs). Assumes nothing.
 use mathlib.Core.Bool.{Bool, _&&_}
 use Prim.Native.Nat.{ℕ}
 use lib.Dec.{leb}
@@ -44,6 +44,10 @@ maxNameLength = 32
 -- "11 columns or rows outside 1 to 32,767"
 abbrev pub maxColRow : ℕ
 maxColRow = 32767
+
+-- "26 flags above 3"
+abbrev pub maxFlags : ℕ
+maxFlags = 3
 
 -- "3 sheet over 16,777,216 bytes"
 abbrev pub maxSheetLength : ℕ

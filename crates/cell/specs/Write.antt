@@ -1,4 +1,4 @@
--- Writing one element (document 01, "Result one" and "Who can cause which refusal"; boxes: document 02, request 3; write/mod.rs): its checks and conversions in the order of its function in mod.rs,
+-- Writing one element (document 01, "Result one" and "Who can cause which refusal"; boxes: document 02, request 3; flags and plex numbers: its request 5; write/mod.rs): its checks and conversions in the order of its function in mod.rs,
 -- and what its records say. A refusal is the first check that fails. Assumes nothing.
 use mathlib.Core.Bool.{Bool, true, false, not, _&&_, _||_, cond}
 use mathlib.Core.Option.{Option, none, some}
@@ -21,14 +21,18 @@ use Rattle.conversion.specs.Field.{widthField, beginField, endField, originFiel
 use Rattle.sheet.specs.Element as S
 use Rattle.stream.specs.Strings.{padded}
 use Rattle.stream.specs.Structure as D
-use Rattle.cell.specs.Limits.{within, minPolygonPoints, minPathPoints, minNodePoints, maxPoints, maxNodePoints, maxLayer, maxDataType, maxStringLength, maxValueLength, maxColRow}
+use Rattle.cell.specs.Limits.{within, minPolygonPoints, minPathPoints, minNodePoints, maxPoints, maxNodePoints, maxLayer, maxDataType, maxStringLength, maxValueLength, maxColRow, maxFlags}
 use Rattle.cell.specs.Names.{isName}
 
 abbrev pub isSome : {A : Type 0} → Option A → Bool
 isSome none = false
 isSome (some a) = true
 
--- ---- layer, type and properties
+-- ---- flags, layer, type and properties
+
+abbrev pub flagsFit : Option ℕ → Bool
+flagsFit none = true
+flagsFit (some flags) = leb flags maxFlags
 
 -- `validate_layer`, `validate_data_type`
 unfoldable pub layerAndType : ℕ → ℕ → Made Done
@@ -187,9 +191,10 @@ module _ (policy : GdsRoundingPolicy) (d : Float) where
   writeBody (S.reference e) = writeReference e
   writeBody (S.box e) = writeBox e >>= λ w. pure (D.box w)
 
-  -- "properties' strings last"
+  -- "26 flags above 3, directly after the block's form check"; "properties' strings last"
   unfoldable pub writeElement : S.Element → Made D.Said
   writeElement e = do
+    need (flagsFit (e .flags)) R.Flags
     b ← writeBody (e .body)
     qs ← writeProperties (e .properties)
-    pure (record { body = b; properties = qs })
+    pure (record { flags = e .flags; plex = e .plex; body = b; properties = qs })

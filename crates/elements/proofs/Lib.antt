@@ -1,7 +1,6 @@
 -- Laws that other crates' proofs cite.
 pub mod BlockLaws
-pub mod SplitLaws
-pub mod BodyLaws
 pub mod LengthLaws
+pub mod OptionLaws
 pub mod PartLaws
 pub mod PutLaws

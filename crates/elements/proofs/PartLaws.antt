@@ -1,10 +1,13 @@
 -- An element's parts measured in turn: its body, then its properties. Assumes nothing.
-use mathlib.Core.Path.{_≡_, refl, sym, ap, _∙_}
-use mathlib.Core.List.{List}
+use mathlib.Core.Path.{_≡_, refl, sym, ap, ap₂, _∙_}
+use mathlib.Core.Bool.{true, false}
+use mathlib.Core.Option.{some}
+use mathlib.Core.List.{List, _++_}
 use Prim.Native.Nat.{ℕ, _+_, _*_, _≤_}
 use native.Mathlib.Omega.{arith}
-use lib.ListN.{length}
+use lib.ListN.{length, drop}
 use lib.Ieee.{Float}
+use Rattle.big_endian.specs.Big.{numberAt}
 use Rattle.refusal.specs.declared.Refusal.{Refusal}
 use Rattle.refusal.specs.declared.Refusal.the-variants as R
 use Rattle.conversion.specs.declared.Deviation.{Deviation}
@@ -12,26 +15,30 @@ use Rattle.conversion.specs.declared.GdsRoundingPolicy.{GdsRoundingPolicy}
 use Rattle.conversion.specs.declared.Entry.{Entry}
 use Rattle.conversion.specs.Made.{Made, refused, made}
 use Rattle.conversion.specs.code.Fold.{blankEntry, run}
-use Rattle.sheet.specs.Element.{kindOf, elementOf}
+use Rattle.sheet.specs.Element.{kindOf, plainKind, elementOf}
 use Rattle.stream.specs.Structure.{Property, SaidBody, Said}
 use Rattle.stream.specs.Records.{elementBytes}
-use Rattle.cell.specs.Write.{writeBody, writeProperties, writeElement}
+use Rattle.cell.specs.Write.{flagsFit, writeBody, writeProperties}
 use Rattle.steps.specs.declared.Measured.{Measured}
 use Rattle.steps.specs.declared.Measured.the-variants as M
 use Rattle.steps.specs.code.Steps.{sizing, Measures}
 use Rattle.steps.proofs.StepLaws.{measure-first-refused, measure-second-refused, measure-both}
 use Rattle.block_places.specs.declared.BodyPlaces.{BodyPlaces}
 use Rattle.block_places.specs.declared.PropertyPlaces.{PropertyPlaces}
+use Rattle.block_places.specs.declared.Options.{Options}
 use Rattle.forms.specs.declared.ElementForm.{ElementForm}
 use Rattle.forms.specs.declared.ElementForm.the-variants as E
 use Rattle.block_places.specs.code.Place.{placeFrom, propertyEnd}
-use Rattle.block_places.specs.code.Places.{bodyAt, propertiesAt, ElementIn}
+use Rattle.block_places.specs.code.Places.{bodyAt, propertiesAt, flagsOf, ElementIn}
 use Rattle.forms.specs.code.Checks.{ElementRead}
+use Rattle.forms.proofs.OptionLaws.{kind-within, kind-read}
 use Rattle.forms.proofs.ElementLaws.{element-as}
 use Rattle.properties.specs.code.Tail.{tailBytes}
-use Rattle.elements.specs.code.Block.{bodyBytes, measuredBlock}
-use Rattle.elements.proofs.LengthLaws.{body-length, body-short, tail-length, tail-short}
-use Rattle.elements.proofs.SplitLaws.{element-split}
+use Rattle.bodies.specs.code.Body.{bodyBytes}
+use Rattle.elements.specs.code.Block.{Parts, writeParts, partsBytes, optionsLength, longer, measuredBlock}
+use Rattle.bodies.proofs.LengthLaws.{body-length, body-short}
+use Rattle.elements.proofs.LengthLaws.{tail-length, tail-short}
+use Rattle.elements.proofs.OptionLaws.{elementWith, flags-refused, measured-with}
 
 -- ---- what was measured, where it was not refused
 
@@ -56,26 +63,30 @@ module _ (policy : GdsRoundingPolicy) (d : Float) (b : List ℕ) (s : BodyPlaces
   abbrev properties : Made (List Property)
   properties = writeProperties (propertiesAt b q)
 
-  -- r is what measuring the whole element answers
+  -- r is what measuring both answers
   abbrev Answers : Measured → Type 0
-  Answers r = Measures elementBytes e (writeElement policy d (record { body = bodyAt b s; properties = propertiesAt b q })) r
+  Answers r = Measures partsBytes e (writeParts policy d (bodyAt b s) (propertiesAt b q)) r
 
-  abbrev join : SaidBody → List Property → Said
+  abbrev join : SaidBody → List Property → Parts
   join w qs = record { body = w; properties = qs }
+
+  split : (w : SaidBody) (qs : List Property) → partsBytes (join w qs) ≡ bodyBytes w ++ tailBytes qs
+  unfolding partsBytes
+  split w qs = refl
 
   module _ (r : Measured) (h : Measures bodyBytes e body r) where
     pub body-refused : (x : Refusal) → r ≡ M.Refused x → Answers (M.Refused x)
-    unfolding writeElement
-    body-refused x g = measure-first-refused bodyBytes tailBytes elementBytes join element-split e body properties r x h g
+    unfolding writeParts
+    body-refused x g = measure-first-refused bodyBytes tailBytes partsBytes join split e body properties r x h g
 
     module _ (n : ℕ) (e′ : Entry) (g : r ≡ M.Through n e′) (t : Measured) (i : Measures tailBytes e′ properties t) where
       pub tail-refused : (x : Refusal) → t ≡ M.Refused x → Answers (M.Refused x)
-      unfolding writeElement
-      tail-refused x j = measure-second-refused bodyBytes tailBytes elementBytes join element-split e body properties r n e′ h g t i x j
+      unfolding writeParts
+      tail-refused x j = measure-second-refused bodyBytes tailBytes partsBytes join split e body properties r n e′ h g t i x j
 
       pub both-measured : (m : ℕ) (e″ : Entry) → t ≡ M.Through m e″ → Answers (M.Through (n + m) e″)
-      unfolding writeElement
-      both-measured m e″ j = measure-both bodyBytes tailBytes elementBytes join element-split e body properties r n e′ h g t i m e″ j
+      unfolding writeParts
+      both-measured m e″ j = measure-both bodyBytes tailBytes partsBytes join split e body properties r n e′ h g t i m e″ j
 
       -- little more than what four such blocks take
       pub both-small : ElementIn b s q → (m : ℕ) (e″ : Entry) → t ≡ M.Through m e″ → n + m ≤ 84 + 4 * length b
@@ -96,13 +107,28 @@ module _ (policy : GdsRoundingPolicy) (d : Float) (i : ℕ) (b : List ℕ) where
   unfolding measuredBlock
   block-ill w g = ap (measuredBlock policy d i) (sym (element-as w g .form))
 
-  -- with the entry that measuring starts from
-  pub block-measured : {r : ElementForm} {s : BodyPlaces} {q : PropertyPlaces} → ElementRead b r → r ≡ E.Element s q
-      → (k : ℕ) (e : Entry) → k ≡ kindOf (bodyAt b s) → e ≡ blankEntry i k → (t : Measured)
-      → Measures elementBytes e (writeElement policy d (record { body = bodyAt b s; properties = propertiesAt b q })) t
-      → t ≡ measuredBlock policy d i (elementOf b)
-  unfolding measuredBlock
-  block-measured {r} {s} {q} w g k e f h t j =
-      j
-      ∙ ap (λ (x : Entry). run M.Refused x (writeElement policy d (record { body = bodyAt b s; properties = propertiesAt b q })) (sizing elementBytes)) (h ∙ ap (blankEntry i) f)
-      ∙ ap (measuredBlock policy d i) (sym (element-as w g .form))
+  module _ {r : ElementForm} {o : Options} {s : BodyPlaces} {q : PropertyPlaces} (w : ElementRead b r) (g : r ≡ E.Element o s q) where
+    abbrev rest : List ℕ
+    rest = drop (o .shift) b
+
+    element : elementOf b ≡ some (elementWith o (bodyAt rest s) (propertiesAt rest q))
+    element = element-as w g .form
+
+    pub kind-in : 1 ≤ length b
+    kind-in = kind-within b _ element
+
+    pub block-flags : flagsFit (flagsOf o) ≡ false → M.Refused R.Flags ≡ measuredBlock policy d i (elementOf b)
+    unfolding measuredBlock run
+    block-flags f =
+        sym (ap (measuredBlock policy d i) element
+        ∙ ap (λ (m : Made Said). run M.Refused (blankEntry i (kindOf (bodyAt rest s))) m (sizing elementBytes)) (flags-refused policy d o (bodyAt rest s) (propertiesAt rest q) f))
+
+    -- with the entry that measuring starts from, in the block z that is left without the options
+    pub block-measured : flagsFit (flagsOf o) ≡ true → {z : List ℕ} → z ≡ rest → (k : ℕ) (e : Entry) → k ≡ plainKind (numberAt 1 b 0) → e ≡ blankEntry i k → (t : Measured)
+        → Measures partsBytes e (writeParts policy d (bodyAt z s) (propertiesAt z q)) t → longer (optionsLength o) t ≡ measuredBlock policy d i (elementOf b)
+    unfolding measuredBlock
+    block-measured f {z} y k e h j t u =
+        ap (longer (optionsLength o)) (u ∙ ap₂ (λ (l : List ℕ) (c : Entry). run M.Refused c (writeParts policy d (bodyAt l s) (propertiesAt l q)) (sizing partsBytes)) y
+        (j ∙ ap (blankEntry i) (h ∙ sym (kind-read b _ element))))
+        ∙ sym (measured-with policy d o (bodyAt rest s) (propertiesAt rest q) (blankEntry i (kindOf (bodyAt rest s))) f)
+        ∙ ap (measuredBlock policy d i) (sym element)

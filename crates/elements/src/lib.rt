@@ -1,65 +1,57 @@
-// One element: a block of the sheet measured, and written (`write_element_with_field_prefix` of write/mod.rs).
+// One element: a block of the sheet measured, and written (`write_element_with_field_prefix` of write/mod.rs). Its flags and its plex number, where it has them, are two records behind its first.
 use block_places::BodyPlaces;
+use block_places::Options;
 use block_places::PropertyPlaces;
 use conversion::CoordinateConverter;
 use conversion::Entry;
 use forms::ElementForm;
+use records::BIT_ARRAY;
+use records::ELFLAGS;
+use records::LONG_RECORD;
+use records::PLEX;
+use records::WORD_RECORD;
 use refusal::Refusal;
 use steps::Measured;
 use steps::Written;
 ghost use mathlib.Core.Path.{_≡_};
-ghost use Prim.Native.Nat.{_≤_};
+ghost use Prim.Native.Nat.{_+_, _≤_};
 ghost use lib.ListN.{length};
+ghost use mir.Syntax.{w32};
+ghost use mir.Val as Val;
 ghost use Rattle.conversion.specs.code.Fold.{Spare};
-ghost use Rattle.sheet.specs.Element.{kindOf, elementOf};
-ghost use Rattle.stream.specs.Records.{elementBytes};
+ghost use Rattle.sheet.specs.Element.{elementOf};
 ghost use Rattle.cell.specs.Limits.{maxSheetLength};
-ghost use Rattle.cell.specs.Write.{writeBody, writeElement};
-ghost use Rattle.block_places.specs.code.Places.{bodyAt, propertiesAt, BodyIn, ElementIn};
+ghost use Rattle.cell.specs.Write.{flagsFit};
+ghost use Rattle.block_places.specs.code.Places.{bodyAt, propertiesAt, flagsOf, ElementIn};
+ghost use Rattle.records.specs.code.Bytes.{recordHead};
 ghost use Rattle.steps.specs.code.Steps.{maxDeviations, Measures, Succeeds, Writes};
-ghost use Rattle.elements.specs.code.Block.{bodyBytes, bodyLength, measuredBlock, Short, Fits, WritesBlock};
+ghost use Rattle.properties.specs.code.Tail.{tailLength};
+ghost use Rattle.bodies.specs.code.Body.{bodyLength};
+ghost use Rattle.elements.specs.code.Block.{writeParts, partsBytes, optionsLength, maxOptionsLength, longer, PutsOptions, measuredBlock, Short, Fits, WritesBlock};
 
-// The kind of an element in its report entry.
-fn kind_of(b: &[u8], body: BodyPlaces) -> u8
-    ensures { λ r. ⌜ r ≡ kindOf (bodyAt (now (b .entry)) body) ⌝ }
+// "26 flags above 3".
+const MAX_FLAGS: u16 = 3;
+
+// ---- the options
+
+fn flags_fit(options: Options) -> bool
+    ensures { λ r. ⌜ r ≡ flagsFit (flagsOf options) ⌝ }
 {
-    match body {
-        BodyPlaces::Polygon { shape: _ } => block_places::POLYGON,
-        BodyPlaces::Path { path: _ } => block_places::PATH,
-        BodyPlaces::Text { text: _ } => block_places::TEXT,
-        BodyPlaces::Node { shape: _ } => block_places::NODE,
-        BodyPlaces::Reference { reference: _ } => block_places::REFERENCE,
-        BodyPlaces::Box { gds_box: _ } => block_places::BOX,
+    if options.flagged {
+        return options.flags <= MAX_FLAGS;
     }
+    true
+}
+
+// The bytes of their records.
+fn options_length(options: Options) -> usize
+    ensures { λ r. ⌜ (r ≡ optionsLength options) × (r ≤ maxOptionsLength) ⌝ }
+{
+    let flags = block_places::size_if(options.flagged, WORD_RECORD);
+    flags + block_places::size_if(options.plexed, LONG_RECORD)
 }
 
 // ---- measuring
-
-// All but the properties, by the kind.
-fn measure_body(
-    converter: CoordinateConverter,
-    b: &[u8],
-    body: BodyPlaces,
-    entry: Entry,
-) -> Measured
-    requires { ⌜ BodyIn (now b) body ⌝ }
-    requires { ⌜ Spare maxDeviations entry ⌝ }
-    ensures { λ r. ⌜ Measures bodyBytes entry (writeBody (converter .policy) (converter .d) (bodyAt (now (b .entry)) body)) r ⌝ }
-{
-    match body {
-        BodyPlaces::Polygon { shape } => polygon_node::measure_polygon(converter, b, shape, entry),
-        BodyPlaces::Path { path } => path::measure_path(converter, b, path, entry),
-        BodyPlaces::Text { text } => text::measure_text(converter, b, text, entry),
-        BodyPlaces::Node { shape: node } => polygon_node::measure_node(converter, b, node, entry),
-        BodyPlaces::Reference { reference } => reference::measure_reference(
-            converter,
-            b,
-            reference,
-            entry,
-        ),
-        BodyPlaces::Box { gds_box } => boxes::measure_box(converter, b, gds_box, entry),
-    }
-}
 
 // Its body, then its properties.
 fn measure_parts(
@@ -72,10 +64,10 @@ fn measure_parts(
     requires { ⌜ length (now b) ≤ maxSheetLength ⌝ }
     requires { ⌜ ElementIn (now b) body properties ⌝ }
     requires { ⌜ Spare maxDeviations entry ⌝ }
-    ensures { λ r. ⌜ Measures elementBytes entry (writeElement (converter .policy) (converter .d) (record { body = bodyAt (now (b .entry)) body; properties = propertiesAt (now (b .entry)) properties })) r ⌝ }
+    ensures { λ r. ⌜ Measures partsBytes entry (writeParts (converter .policy) (converter .d) (bodyAt (now (b .entry)) body) (propertiesAt (now (b .entry)) properties)) r ⌝ }
     ensures { λ r. ⌜ Short (length (now (b .entry))) r ⌝ }
 {
-    match measure_body(converter, b, body, entry) {
+    match bodies::measure_body(converter, b, body, entry) {
         Measured::Refused { refusal } => Measured::Refused { refusal },
         Measured::Through { length, entry: e } => match properties::measure_tail(b, properties, e) {
             Measured::Refused { refusal: refusal2 } => Measured::Refused { refusal: refusal2 },
@@ -93,7 +85,24 @@ fn measure_parts(
     }
 }
 
-// The block's form first.
+// The parts with the options' records.
+fn measure_options(options: Options, parts: Measured) -> Measured
+    requires { ⌜ Short maxSheetLength parts ⌝ }
+    ensures { λ r. ⌜ r ≡ longer (optionsLength options) parts ⌝ }
+{
+    match parts {
+        Measured::Refused { refusal: first } => Measured::Refused { refusal: first },
+        Measured::Through { length, entry } => {
+            let whole = length + options_length(options);
+            Measured::Through {
+                length: whole,
+                entry,
+            }
+        }
+    }
+}
+
+// The block's form first, then its flags.
 pub fn measure_element(converter: CoordinateConverter, b: &[u8], index: u32) -> Measured
     requires { ⌜ length (now b) ≤ maxSheetLength ⌝ }
     ensures { λ r. ⌜ r ≡ measuredBlock (converter .policy) (converter .d) index (elementOf (now (b .entry))) ⌝ }
@@ -103,52 +112,56 @@ pub fn measure_element(converter: CoordinateConverter, b: &[u8], index: u32) -> 
         ElementForm::Ill => Measured::Refused {
             refusal: Refusal::Form,
         },
-        ElementForm::Element { body, properties } => measure_parts(
-            converter,
-            b,
+        ElementForm::Element {
+            options,
             body,
             properties,
-            Entry::blank(index, kind_of(b, body)),
-        ),
+        } => {
+            if !flags_fit(options) {
+                return Measured::Refused {
+                    refusal: Refusal::Flags,
+                };
+            }
+            let rest = block_places::block_from(b, options.shift);
+            let blank = Entry::blank(index, block_places::plain_kind(b));
+            let parts = measure_parts(converter, rest, body, properties, blank);
+            measure_options(options, parts)
+        }
     }
 }
 
 // ---- writing
 
-// All but the properties, by the kind, at the start of the part.
-fn put_body(
+// Its body, then its properties, at the start of the part.
+fn put_parts(
     converter: CoordinateConverter,
     b: &[u8],
     body: BodyPlaces,
+    properties: PropertyPlaces,
     part: &mut [u8],
     entry: Entry,
 ) -> Written
-    requires { ⌜ BodyIn (now b) body ⌝ }
-    requires { ⌜ Succeeds (writeBody (converter .policy) (converter .d) (bodyAt (now b) body)) ⌝ }
+    requires { ⌜ ElementIn (now b) body properties ⌝ }
+    requires { ⌜ Succeeds (writeParts (converter .policy) (converter .d) (bodyAt (now b) body) (propertiesAt (now b) properties)) ⌝ }
     requires { ⌜ Spare maxDeviations entry ⌝ }
-    requires { ⌜ bodyLength (now b) body ≤ length (now part) ⌝ }
-    ensures { λ r. ⌜ Writes bodyBytes entry (writeBody (converter .policy) (converter .d) (bodyAt (now (b .entry)) body)) 0 (now (part .entry)) (now (part .exit)) r ⌝ }
+    requires { ⌜ bodyLength (now b) body + tailLength (properties .count) (now b) (properties .place) ≤ length (now part) ⌝ }
+    ensures { λ r. ⌜ Writes partsBytes entry (writeParts (converter .policy) (converter .d) (bodyAt (now (b .entry)) body) (propertiesAt (now (b .entry)) properties)) 0 (now (part .entry)) (now (part .exit)) r ⌝ }
 {
-    match body {
-        BodyPlaces::Polygon { shape } => polygon_node::put_polygon(
-            converter,
-            b,
-            shape,
-            part,
-            entry,
-        ),
-        BodyPlaces::Path { path } => path::put_path(converter, b, path, part, entry),
-        BodyPlaces::Text { text } => text::put_text(converter, b, text, part, entry),
-        BodyPlaces::Node { shape: node } => polygon_node::put_node(converter, b, node, part, entry),
-        BodyPlaces::Reference { reference } => reference::put_reference(
-            converter,
-            b,
-            reference,
-            part,
-            entry,
-        ),
-        BodyPlaces::Box { gds_box } => boxes::put_box(converter, b, gds_box, part, entry),
-    }
+    let written = bodies::put_body(converter, b, body, part, entry);
+    properties::put_tail(b, properties, part, written.to, written.entry)
+}
+
+// The options behind the first record: the parts stand as many bytes further on as these take, and their first record goes to the start.
+fn put_options(options: Options, part: &mut [u8]) -> usize
+    requires { ⌜ Val.Fits w32 (options .plex) ⌝ }
+    requires { ⌜ recordHead + optionsLength options ≤ length (now part) ⌝ }
+    ensures { λ r. ⌜ PutsOptions options (now (part .entry)) (now (part .exit)) r ⌝ }
+{
+    let first = big_endian::u32_at(part, options_length(options));
+    let a = big_endian::put_u32_at(part, 0, first);
+    let b = records::put_opt_two_at(part, a, ELFLAGS, BIT_ARRAY, options.flagged, options.flags);
+    let plex = big_endian::as_i32(options.plex);
+    records::put_opt_long_at(part, b, PLEX, options.plexed, plex)
 }
 
 // The block's element into the part of the output that starts where the last one ended. Measuring has checked the form, so its parts are read by their places alone.
@@ -157,9 +170,16 @@ pub fn put_element(converter: CoordinateConverter, b: &[u8], index: u32, part: &
     ensures { λ r. ⌜ WritesBlock (converter .policy) (converter .d) index (now (b .entry)) (now (part .entry)) (now (part .exit)) r ⌝ }
 {
     let element = block_places::element_places(b);
+    let options = element.options;
     let body = element.body;
     let properties = element.properties;
-    let kind = kind_of(b, body);
-    let written = put_body(converter, b, body, part, Entry::blank(index, kind));
-    properties::put_tail(b, properties, part, written.to, written.entry)
+    let rest = block_places::block_from(b, options.shift);
+    let kind = block_places::plain_kind(b);
+    let blank = Entry::blank(index, kind);
+    let from = options_length(options);
+    let written = put_parts(converter, rest, body, properties, &mut part[from..], blank);
+    put_options(options, part);
+    let to = from + written.to;
+    let entry = written.entry;
+    Written { to, entry }
 }

@@ -1,23 +1,26 @@
 -- What a well-formed block holds stands at the places that its own numbers tell: for code that reads a block whose form was checked before. Assumes nothing.
-use mathlib.Core.Path.{_≡_, refl, sym, _∙_, subst}
+use mathlib.Core.Path.{_≡_, refl, sym, ap, _∙_, subst}
 use mathlib.Core.Bool.{Bool, true, false, cond}
 use mathlib.Core.Option.{Option, none, some, Option·none-ne-some}
 use mathlib.Core.List.{List}
 use Prim.Native.Nat.{ℕ, zero, suc, _+_, _*_, _≤_, _<_}
 use native.Mathlib.Omega.{arith}
-use lib.Dec.{leb, eqb}
+use lib.Dec.{leb, ltb, eqb}
 use lib.ListN.{length, drop, length-drop}
+use lib.Seq.{drop-drop}
+use mir.Val.{toZ}
+use mir.Syntax.{w32}
 use borrow.Author.Tests.{eqb-true, eqb-false}
 use Rattle.big_endian.specs.Big.{numberAt}
 use Rattle.parsing.specs.Parse.{Part, ill, part, IllFormed, illFormed, pure, fail, follow, map, present, when, times, ended, _>>=_}
 use Rattle.parsing.proofs.ParseLaws.{no-part}
 use Rattle.units.specs.declared.Unit.{Unit}
-use Rattle.sheet.specs.Form.{Form, integerKind, absentKind, bytes, num, code, flag, double, string, counted, coordinate, point, spacingOf, spacing}
-use Rattle.sheet.specs.Element.{Body, Element, box, polygonKind, pathKind, textKind, nodeKind, referenceKind, boxKind, property, shapeForm, pathTypeForm, pathForm, textForm, referenceForm, boxForm, bodyForm, elementForm, elementOf}
+use Rattle.sheet.specs.Form.{Form, integerKind, absentKind, bytes, num, code, flag, double, string, counted, optional, long, coordinate, point, spacingOf, spacing}
+use Rattle.sheet.specs.Element.{Property, Body, Element, box, polygonKind, pathKind, textKind, nodeKind, referenceKind, boxKind, flagsRaise, plexRaise, kindLimit, raised, plainKind, property, shapeForm, pathTypeForm, pathForm, textForm, referenceForm, boxForm, bodyForm, elementForm, elementOf}
 use Rattle.block_places.specs.declared.BodyPlaces.{BodyPlaces}
 use Rattle.block_places.specs.declared.BodyPlaces.the-variants as B
 use Rattle.block_places.specs.code.Place.{valuesFrom, placeFrom, doubleAt, unitAt, coordinateAt, pointAt, pointEnd, pointsFrom, spacingAt, stringAt, stringEnd, propertyAt, propertyEnd, propertiesFrom}
-use Rattle.block_places.specs.code.Places.{pathTypeOf, shapeAt, pathAt, textAt, referenceAt, boxAt, bodyAt, shapePlaces, pathPlaces, textPlaces, referencePlaces, boxPlaces, bodyPlaces, bodyEnd, elementPlaces, BodyIn}
+use Rattle.block_places.specs.code.Places.{pathTypeOf, shapeAt, pathAt, textAt, referenceAt, boxAt, bodyAt, shapePlaces, pathPlaces, textPlaces, referencePlaces, boxPlaces, bodyPlaces, bodyEnd, flagsOf, plexOf, sizeIf, shiftOf, optionsAt, shifted, bodyIn, bodyEndIn, elementPlaces, BodyIn}
 use Rattle.block_places.proofs.PlacesLaws.{by-kind}
 use Rattle.forms.specs.declared.ElementForm.the-variants as E
 use Rattle.forms.specs.code.Checks.{given, Checked, ElementRead}
@@ -194,10 +197,9 @@ module _ (b : List ℕ) where
   stands-kind true s u g h = g
   stands-kind false s u g h = h
 
-  stands-body : Stands (bodyForm (numberAt 1 b 0)) b 1 (bodyAt b (bodyPlaces b)) (bodyEnd b (bodyPlaces b))
+  stands-body : (k : ℕ) → Stands (bodyForm k) b 1 (bodyAt b (bodyPlaces k b)) (bodyEnd b (bodyPlaces k b))
   unfolding bodyForm bodyPlaces shapePlaces pathPlaces textPlaces referencePlaces boxPlaces
-  stands-body =
-      let k = numberAt 1 b 0 in
+  stands-body k =
       stands-kind (eqb k polygonKind) (B.Polygon (shapePlaces b)) _ (stands-bind shapeForm _ stands-shape stands-pure)
       (stands-kind (eqb k pathKind) (B.Path (pathPlaces b)) _ (stands-bind pathForm _ stands-path stands-pure)
       (stands-kind (eqb k textKind) (B.Text (textPlaces b)) _ (stands-bind textForm _ stands-text stands-pure)
@@ -209,10 +211,10 @@ module _ (b : List ℕ) where
       last true = stands-bind boxForm _ stands-box stands-pure
       last false = stands-fail
 
-  body-in : bodyEnd b (bodyPlaces b) ≤ length b → BodyIn b (bodyPlaces b)
+  body-in : (k : ℕ) → bodyEnd b (bodyPlaces k b) ≤ length b → BodyIn b (bodyPlaces k b)
   unfolding shapePlaces pathPlaces textPlaces referencePlaces boxPlaces
-  body-in h =
-      by-kind b (λ s. bodyEnd b s ≤ length b → BodyIn b s)
+  body-in k h =
+      by-kind k b (λ s. bodyEnd b s ≤ length b → BodyIn b s)
       (λ l. record { points-in = l })
       (λ l. record { width-in = omega arith; begin-in = omega arith; end-in = omega arith; points-in = l })
       (λ l. record { origin-in = omega arith; string-in = l })
@@ -221,45 +223,104 @@ module _ (b : List ℕ) where
       (λ l. record { first-in = omega arith; second-in = omega arith })
       h
 
-  -- ---- the element
-
   stands-property : (at : ℕ) → Stands property b at (propertyAt b at) (propertyEnd b at)
   unfolding property propertyAt
   stands-property at = stands-bind (num 2) _ (stands-num 2 at (at + 2) refl) (stands-bind string _ (stands-string (at + 2) (propertyEnd b at) refl) stands-pure)
 
+  -- ---- options
+
+  stands-optional : {A : Type 0} (t : Bool) (p : Form A) (value : ℕ → A) (k at : ℕ) → Stands p b at (value (numberAt k b at)) (at + k)
+      → Stands (optional t p) b at (cond t (some (value (cond t (numberAt k b at) 0))) none) (at + sizeIf t k)
+  unfolding optional
+  stands-optional true p value k at g = stands-bind p _ g stands-pure
+  stands-optional false p value k at g = subst (Stands (pure none) b at none) (omega arith) stands-pure
+
+  stands-long : (at to : ℕ) → at + 4 ≡ to → Stands long b at (toZ w32 (numberAt 4 b at)) to
+  unfolding long
+  stands-long at to q = stands-bind (num 4) _ (stands-num 4 at to q) stands-pure
+
+  -- after a test on what was read before
+  stands-known : {A B : Type 0} (t : Bool) (p : Form A) (f : A → Form B) {at to : ℕ} {a : B} → Stands (p >>= f) b at a to → Stands (when illFormed t p >>= f) b at a to
+  stands-known true p f g = g
+  stands-known false p f g = λ h x r e. no-part e
+
+  -- the same place in other words
+  stands-place : {A : Type 0} (p : Form A) {i j to : ℕ} {a : A} → i ≡ j → Stands p b i a to → Stands p b j a to
+  stands-place p {to = to} {a = a} e g = subst (λ (at : ℕ). Stands p b at a to) e g
+
+  -- in the block from place n on
+  stands-from : {A : Type 0} (p : Form A) (n : ℕ) {at to : ℕ} {a : A} → Stands p (drop n b) at a to → Stands p b (n + at) a (n + to)
+  stands-from p n {at} {to} {a} g h x r e =
+      let u = g (omega (arith, length-drop n b)) x r (ap p (drop-drop at n b) ∙ e) in
+      let w = u .within in
+      record { is = ap p (sym (drop-drop at n b)) ∙ u .is ∙ ap (λ (s : List ℕ). part a s) (drop-drop to n b); within = omega (arith, length-drop n b) }
+
+-- ---- the element
+
+module _ (b : List ℕ) where
+  abbrev shift : ℕ
+  shift = shiftOf (numberAt 1 b 0)
+
   abbrev end : ℕ
-  end = bodyEnd b (bodyPlaces b)
+  end = bodyEndIn b
 
   abbrev held : Element
-  held = record { body = bodyAt b (bodyPlaces b); properties = propertiesFrom (numberAt 2 b end) b (end + 2) }
+  held = record { flags = flagsOf (optionsAt b); plex = plexOf (optionsAt b); body = bodyAt (shifted b) (bodyIn b); properties = propertiesFrom (numberAt 2 (shifted b) end) (shifted b) (end + 2) }
 
   abbrev last : ℕ
-  last = placeFrom propertyEnd (numberAt 2 b end) b (end + 2)
+  last = placeFrom propertyEnd (numberAt 2 (shifted b) end) (shifted b) (end + 2)
 
-  stands-element : Stands elementForm b 0 held last
-  unfolding elementForm
-  stands-element = stands-bind (num 1) _ (stands-num 1 0 1 refl) (stands-bind (bodyForm (numberAt 1 b 0)) _ stands-body (stands-bind (counted property) _ (stands-counted property propertyAt propertyEnd stands-property end) stands-pure))
+  -- the last two parts, in the block that is left without the options
+  stands-parts : (make : Body → List Property → Element) → Stands (bodyForm (plainKind (numberAt 1 b 0)) >>= λ x. counted property >>= λ qs. pure (make x qs)) (shifted b) 1
+      (make (bodyAt (shifted b) (bodyIn b)) (propertiesFrom (numberAt 2 (shifted b) end) (shifted b) (end + 2))) last
+  stands-parts make =
+      let k = plainKind (numberAt 1 b 0) in
+      stands-bind (shifted b) (bodyForm k) _ (stands-body (shifted b) k)
+      (stands-bind (shifted b) (counted property) _ (stands-counted (shifted b) property propertyAt propertyEnd (stands-property (shifted b)) end) (stands-pure (shifted b)))
+
+  stands-element : Stands elementForm b 0 held (shift + last)
+  unfolding elementForm optionsAt shifted shiftOf
+  stands-element =
+      let k = numberAt 1 b 0 in
+      let f = raised flagsRaise k in
+      let p = raised plexRaise k in
+      stands-bind b (num 1) _ (stands-num b 1 0 1 refl)
+      (stands-bind b (optional f (num 2)) _ (stands-optional b f (num 2) (λ v. v) 2 1 (stands-num b 2 1 3 refl))
+      (stands-bind b (optional p long) _ (stands-optional b p long (toZ w32) 4 (1 + sizeIf f 2) (stands-long b (1 + sizeIf f 2) (1 + sizeIf f 2 + 4) refl))
+      (stands-known b (ltb k kindLimit) (bodyForm (plainKind k)) _
+      (stands-place b _ (omega arith) (stands-from b _ shift (stands-parts (λ x qs. record { flags = flagsOf (optionsAt b); plex = plexOf (optionsAt b); body = x; properties = qs })))))))
 
   -- what the block holds is read by its places, which lie in it
   pub record Held : Type 0 where
-    pub read : ElementRead b (E.Element (elementPlaces b .body) (elementPlaces b .properties))
-    pub room : end + 2 ≤ length b
+    pub read : ElementRead b (E.Element (elementPlaces b .options) (elementPlaces b .body) (elementPlaces b .properties))
+    pub room : end + 2 ≤ length (shifted b)
 
   pub element-held : (e : Element) → elementOf b ≡ some e → Held
-  unfolding elementOf elementPlaces
+  unfolding elementOf elementPlaces optionsAt shifted
   element-held e h = form (elementForm b) refl h
     where
       less : (i j : ℕ) → i ≤ j → (i ≡ j → ⊥) → i < j
       less i j h g = omega arith
 
-      to-the-end : There elementForm b 0 held last → (q : Bool) → eqb last (length b) ≡ q → Held
+      to-the-end : There elementForm b 0 held (shift + last) → (q : Bool) → eqb (shift + last) (length b) ≡ q → Held
       to-the-end t true q =
-          let l : last ≡ length b = eqb-true _ _ q in
-          let after = place-after propertyEnd b (λ k. omega arith) (numberAt 2 b end) (end + 2) in
-          let room : end + 2 ≤ length b = omega arith in
-          record { read = record { form = ends b _ last (t .is) l; places = record { body-in = body-in (omega arith); properties-in = record { first-in = room; last-in = l } } }; room = room }
-      to-the-end t false q = absurd (Option·none-ne-some e (sym (ends-not b _ last (t .is) (less last (length b) (t .within) (eqb-false _ _ q))) ∙ h))
+          let l : shift + last ≡ length b = eqb-true _ _ q in
+          let r : last ≡ length (shifted b) = omega (arith, length-drop shift b) in
+          let after = place-after propertyEnd (shifted b) (λ k. omega arith) (numberAt 2 (shifted b) end) (end + 2) in
+          let room : end + 2 ≤ length (shifted b) = omega arith in
+          record {
+            read = record {
+              form = ends b _ (shift + last) (t .is) l;
+              places = record {
+                options = refl;
+                shift-in = omega arith;
+                parts-in = record { body-in = body-in (shifted b) (plainKind (numberAt 1 b 0)) (omega arith); properties-in = record { first-in = room; last-in = r } };
+              };
+            };
+            room = room;
+          }
+      to-the-end t false q = absurd (Option·none-ne-some e (sym (ends-not b _ (shift + last) (t .is) (less (shift + last) (length b) (t .within) (eqb-false _ _ q))) ∙ h))
 
       form : (z : Part IllFormed ℕ Element) → elementForm b ≡ z → ended z ≡ some e → Held
       form (ill c) d f = absurd (Option·none-ne-some e f)
-      form (part x r) d f = to-the-end (stands-element (omega arith) x r d) (eqb last (length b)) refl
+      form (part x r) d f = to-the-end (stands-element (omega arith) x r d) (eqb (shift + last) (length b)) refl

@@ -11,5 +11,6 @@ pub mod TextLaws
 pub mod ReferenceLaws
 pub mod BoxLaws
 pub mod HeadLaws
+pub mod OptionLaws
 pub mod ElementLaws
 pub mod HeldLaws

@@ -1,5 +1,6 @@
 // The form of a block: whether it is well formed (refusal 5), and where its parts are.
 ghost use mathlib.Core.Bool.{cond};
+ghost use mathlib.Core.Path.{_≡_};
 ghost use Prim.Native.Nat.{_+_, _*_, _≤_};
 ghost use lib.ListN.{length};
 ghost use Rattle.big_endian.specs.Big.{numberAt};
@@ -8,7 +9,7 @@ ghost use Rattle.sheet.specs.Form as Form;
 ghost use Rattle.sheet.specs.Element as Element;
 ghost use Rattle.block_places.specs.code.Place.{unitAt, coordinateAt, pointAt, pointsFrom, spacingAt, maxWord, pathPointsPlace, coordinateLength, pointLength};
 ghost use Rattle.block_places.specs.code.Places.{pathTypeOf};
-ghost use Rattle.forms.specs.code.Checks.{given, Checked, LengthsChecked, PropertiesRead, BodyRead, HeadRead, ElementRead};
+ghost use Rattle.forms.specs.code.Checks.{given, Checked, LengthsChecked, PropertiesRead, BodyRead, HeadRead, optionsIn, ElementRead};
 use block_places::ABSENT;
 use block_places::AFTER_NAME;
 use block_places::BEGIN;
@@ -24,12 +25,14 @@ use block_places::HORIZONTAL;
 use block_places::HeadPlaces;
 use block_places::INTEGER;
 use block_places::INTEGERS;
+use block_places::KINDS;
 use block_places::NAME;
 use block_places::NAME_BYTES;
 use block_places::NO_PATH_TYPE;
 use block_places::NODE;
 use block_places::NUMBER;
 use block_places::ORIGIN;
+use block_places::Options;
 use block_places::PATH;
 use block_places::PATH_POINTS;
 use block_places::PATH_TYPE;
@@ -70,6 +73,7 @@ pub enum HeadForm {
 pub enum ElementForm {
     Ill,
     Element {
+        options: Options,
         body: BodyPlaces,
         properties: PropertyPlaces,
     },
@@ -407,18 +411,35 @@ pub fn head_of(b: &[u8]) -> HeadForm
     }
 }
 
-// An element: its kind byte, its body and its properties.
+// Whether there is a kind byte, raised by no more than both options, and what it is raised for.
+fn has_options(b: &[u8]) -> bool
+    ensures { λ r. ⌜ r ≡ optionsIn (now (b .entry)) ⌝ }
+{
+    if b.len() < 1 {
+        return false;
+    }
+    let kind = big_endian::u8_at(b, 0);
+    if KINDS <= kind {
+        return false;
+    }
+    1 + block_places::shift_of(kind) <= b.len()
+}
+
+// An element: its kind byte, its options, its body and its properties.
 pub fn element(b: &[u8]) -> ElementForm
     ensures { λ r. ⌜ ElementRead (now (b .entry)) r ⌝ }
 {
-    if b.len() < 1 {
+    if !has_options(b) {
         return ElementForm::Ill;
     }
-    match body(b, big_endian::u8_at(b, 0)) {
+    let options = block_places::options_at(b);
+    let rest = block_places::block_from(b, options.shift);
+    match body(rest, block_places::plain_kind(b)) {
         BodyForm::Ill => ElementForm::Ill,
-        BodyForm::Body { places: body, end } => match properties(b, end) {
+        BodyForm::Body { places: body, end } => match properties(rest, end) {
             PropertiesForm::Ill => ElementForm::Ill,
             PropertiesForm::Properties { places: properties } => ElementForm::Element {
+                options,
                 body,
                 properties,
             },

@@ -12,7 +12,7 @@ use lib.IntN.{ℤ, pos, _+ℤ_, _*ℤ_}
 use lib.Ieee.{Float}
 use lib.Ieee.Fits.{and-l, and-r}
 use Rattle.parsing.specs.All.{All, done, more}
-use Rattle.binary64.specs.Value.{scaled}
+use Rattle.binary64.specs.Value.{scaled, sameInt}
 use Rattle.gds_format.proofs.DecodeLaws.{same-is}
 use Rattle.units.specs.declared.Unit.{Unit}
 use Rattle.units.specs.Point.{Point}
@@ -46,11 +46,17 @@ flag true false h = absurd h
 flag false true h = absurd h
 flag false false h = refl
 
-pathType : (t u : Option ℕ) → T (Told.both Told.pathType t u) → t ≡ u
-pathType none none h = refl
-pathType none (some n) h = absurd h
-pathType (some m) none h = absurd h
-pathType (some m) (some n) h = ap some (eqb→eq m n (and-l (eqb m n) true h))
+number : (t u : Option ℕ) → T (Told.both Told.number t u) → t ≡ u
+number none none h = refl
+number none (some n) h = absurd h
+number (some m) none h = absurd h
+number (some m) (some n) h = ap some (eqb→eq m n (and-l (eqb m n) true h))
+
+integer : (t u : Option ℤ) → T (Told.both Told.integer t u) → t ≡ u
+integer none none h = refl
+integer none (some z) h = absurd h
+integer (some y) none h = absurd h
+integer (some y) (some z) h = ap some (same-is y z (and-l (sameInt y z) true h))
 
 module _ {A B : Type 0} {R : A → B → Type 0} (t : A → B → Told.Tests) (law : (a : A) (b : B) → All T (t a b) → R a b) where
   each : (s : List A) (u : List B) → T (Told.each t s u) → Draws.Each R s u
@@ -148,7 +154,7 @@ module _ (r : GdsRoundingPolicy) (d : Float) where
       record {
         layer = eqb→eq _ _ l;
         datatype = eqb→eq _ _ t;
-        pathType = pathType _ _ p;
+        pathType = number _ _ p;
         width = length _ _ w;
         begin = length _ _ b;
         end = length _ _ n;
@@ -215,7 +221,8 @@ module _ (r : GdsRoundingPolicy) (d : Float) where
   body (S.box e) = byKind _ (λ w. never) (λ w. never) (λ w. never) (λ w. never) (λ w. never) (λ w. never) (λ w h. Draws.box (box h))
 
   element : (e : S.Element) (w : Worth) → All T (Told.element r d e w) → Draws.AlikeElement r d e w
-  element e w (more b (more qs done)) = record { body = body _ _ (all (Told.body r d (e .body) (w .body)) b); properties = each Told.property property _ _ qs }
+  element e w (more f (more p (more b (more qs done)))) =
+      record { flags = number _ _ f; plex = integer _ _ p; body = body _ _ (all (Told.body r d (e .body) (w .body)) b); properties = each Told.property property _ _ qs }
 
   pub alike : {c : Cell} {s : Drawn} → All T (Told.told r d c s) → Draws.Alike r d c s
   alike (more n (more es done)) = record { name = bytes _ _ n; elements = each (Told.element r d) element _ _ es }

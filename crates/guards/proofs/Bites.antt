@@ -8,7 +8,7 @@ use lib.Dec.{T}
 use Rattle.parsing.specs.All.{All}
 use Rattle.conversion.specs.declared.GdsRoundingPolicy.the-variants.{Nearest}
 use Rattle.conversion.specs.Policy.{policyOf}
-use Rattle.sheet.specs.Cell.{cellOf}
+use Rattle.sheet.specs.Cell.{Cell, cellOf}
 use Rattle.stream.specs.Read.{structureOf}
 use Rattle.cell.specs.Draws.{Draws}
 use Rattle.cases.specs.Case.{halved}
@@ -29,25 +29,25 @@ nearest : policyOf 0 ≡ some Nearest
 unfolding opened
 nearest = refl
 
-quick : List ℕ → Bool
-quick b = allBytes b && toldOf one (some Nearest) (some cell) (structureOf b)
+unfoldable pub quick : Cell → List ℕ → Bool
+quick c b = allBytes b && toldOf one (some Nearest) (some c) (structureOf b)
 
-same : (b : List ℕ) → quick b ≡ drawing (asked b)
+pub same : (s : List ℕ) (c : Cell) → cellOf s ≡ some c → (b : List ℕ) → quick c b ≡ drawing (asked s b)
 unfolding quick
-same b = rw (nearest, sheet-holds)
+same s c h b = rw (nearest, h)
 
 -- ---- the tables
 
-wrong-differ : T (allDiffer asked quick wrong)
+wrong-differ : T (allDiffer (asked sheet) (quick cell) wrong)
 unfolding opened halved records cell quick edit wrong allDiffer
 wrong-differ = tt
 
 pub wrong-refused : All (λ b. Draws 0 one sheet b → ⊥) wrong
-wrong-refused = refused asked quick same wrong wrong-differ
+wrong-refused = refused (asked sheet) (quick cell) (same sheet cell sheet-holds) wrong wrong-differ
 
-alike-draw : T (allDraw quick alike)
+alike-draw : T (allDraw (quick cell) alike)
 unfolding opened halved records cell quick edit alike allDraw
 alike-draw = tt
 
 pub alike-drawn : All (λ b. Draws 0 one sheet b) alike
-alike-drawn = drawn asked quick same alike alike-draw
+alike-drawn = drawn (asked sheet) (quick cell) (same sheet cell sheet-holds) alike alike-draw

@@ -1,6 +1,6 @@
 -- A box's block holds what it does by hand, and a box is written and reported as by hand. Computed. Assumes nothing.
 use mathlib.Core.Path.{_≡_, refl}
-use mathlib.Core.Option.{Option, some}
+use mathlib.Core.Option.{Option, none, some}
 use mathlib.Core.List.{List, [], _∷_}
 use Rattle.sheet.specs.Element as S
 use Rattle.sheet.specs.Element.{elementOf}
@@ -28,10 +28,10 @@ blocks-hold = refl
 -- ---- points and entries
 
 element : Row → S.Element
-element r = record { body = S.box (record { layer = 1; boxtype = 2; first = r .first; second = r .second }); properties = [] }
+element r = record { flags = none; plex = none; body = S.box (record { layer = 1; boxtype = 2; first = r .first; second = r .second }); properties = [] }
 
 said : Row → D.Said
-said r = record { body = D.box (record { layer = 1; datatype = 2; points = r .points }); properties = [] }
+said r = record { flags = none; plex = none; body = D.box (record { layer = 1; datatype = 2; points = r .points }); properties = [] }
 
 pub answers : List Row → List (Result (List D.Said))
 answers [] = []

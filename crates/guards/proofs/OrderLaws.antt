@@ -6,7 +6,7 @@ use Rattle.stream.specs.Structure.{Said}
 use Rattle.cell.specs.Write.{writeElement}
 use Rattle.cases.specs.Case.{halved}
 use Rattle.cases.proofs.Open.{opened}
-use Rattle.guards.specs.Orders.{Row, coordinates, polygons, nodes, boxes, paths, texts, references, arrays}
+use Rattle.guards.specs.Orders.{Row, coordinates, polygons, nodes, boxes, paths, texts, references, arrays, flags}
 
 pub answers : List Row → List (Made Said)
 answers [] = []
@@ -47,3 +47,7 @@ references-hold = refl
 pub arrays-hold : answers arrays ≡ known arrays
 unfolding opened halved arrays answers known
 arrays-hold = refl
+
+pub flags-hold : answers flags ≡ known flags
+unfolding opened halved flags answers known
+flags-hold = refl

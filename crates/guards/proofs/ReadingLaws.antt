@@ -49,31 +49,31 @@ refusals-hold = refl
 -- ---- every record of the structure in turn
 
 -- the numbers of the records, from k on, whose change is still read
-pub read : ℕ → List (List ℕ) → List ℕ
+unfoldable pub read : ℕ → List (List ℕ) → List ℕ
 read k [] = []
 read k (b ∷ bs) = cond (isRead (structureOf b)) (k ∷ read (suc k) bs) (read (suc k) bs)
 
-pub still : Change → List ℕ
-still change = read 0 (inTurn change [] records)
+unfoldable pub still : Change → List (List ℕ) → List ℕ
+still change rs = read 0 (inTurn change [] rs)
 
 -- Only strings may be longer: STRNAME, the three PROPVALUEs, STRING and the two SNAMEs.
-pub sizes : still grown ≡ 1 ∷ 7 ∷ 9 ∷ 28 ∷ 36 ∷ 40 ∷ 54 ∷ []
+pub sizes : still grown records ≡ 1 ∷ 7 ∷ 9 ∷ 28 ∷ 36 ∷ 40 ∷ 54 ∷ []
 unfolding opened halved records inTurn read still
 sizes = refl
 
-pub data-types : still retyped ≡ []
+pub data-types : still retyped records ≡ []
 unfolding opened halved records inTurn read still
 data-types = refl
 
 -- Only these may be missing: PATHTYPE, WIDTH, BGNEXTN, ENDEXTN, PRESENTATION, MAG and ANGLE. STRANS may not, where MAG follows.
-pub missing : still leftOut ≡ 14 ∷ 15 ∷ 16 ∷ 17 ∷ 23 ∷ 25 ∷ 26 ∷ []
+pub missing : still leftOut records ≡ 14 ∷ 15 ∷ 16 ∷ 17 ∷ 23 ∷ 25 ∷ 26 ∷ []
 unfolding opened halved records inTurn read still
 missing = refl
 
-pub twice : still doubled ≡ []
+pub twice : still doubled records ≡ []
 unfolding opened halved records inTurn read still
 twice = refl
 
-pub order : still exchanged ≡ []
+pub order : still exchanged records ≡ []
 unfolding opened halved records inTurn read still
 order = refl

@@ -56,12 +56,19 @@ flag-refl false = tt
 flag : {a b : Bool} → a ≡ b → T (Told.same a b)
 flag {a} e = subst (λ (b : Bool). T (Told.same a b)) e (flag-refl a)
 
-pathType-refl : (t : Option ℕ) → T (Told.both Told.pathType t t)
-pathType-refl none = tt
-pathType-refl (some n) = all {ts = Told.pathType n n} (more (eqb-refl n) done)
+number-refl : (t : Option ℕ) → T (Told.both Told.number t t)
+number-refl none = tt
+number-refl (some n) = all {ts = Told.number n n} (more (eqb-refl n) done)
 
-pathType : {t u : Option ℕ} → t ≡ u → T (Told.both Told.pathType t u)
-pathType {t} e = subst (λ (u : Option ℕ). T (Told.both Told.pathType t u)) e (pathType-refl t)
+number : {t u : Option ℕ} → t ≡ u → T (Told.both Told.number t u)
+number {t} e = subst (λ (u : Option ℕ). T (Told.both Told.number t u)) e (number-refl t)
+
+integer-refl : (t : Option ℤ) → T (Told.both Told.integer t t)
+integer-refl none = tt
+integer-refl (some z) = all {ts = Told.integer z z} (more (own z) done)
+
+integer : {t u : Option ℤ} → t ≡ u → T (Told.both Told.integer t u)
+integer {t} e = subst (λ (u : Option ℤ). T (Told.both Told.integer t u)) e (integer-refl t)
 
 module _ {A B : Type 0} {R : A → B → Type 0} (t : A → B → Told.Tests) (law : (a : A) (b : B) → R a b → All T (t a b)) where
   each : {s : List A} {u : List B} → Draws.Each R s u → T (Told.each t s u)
@@ -132,7 +139,7 @@ module _ (r : GdsRoundingPolicy) (d : Float) where
 
   path : {e : S.Path} {w : D.Path} → Draws.AlikePath r d e w → All T (Told.path r d e w)
   path h =
-      more (eq (h .layer)) (more (eq (h .datatype)) (more (pathType (h .pathType)) (more (length (h .width)) (more (length (h .begin)) (more (length (h .end)) (more (each (Told.point r d) point (h .points)) done))))))
+      more (eq (h .layer)) (more (eq (h .datatype)) (more (number (h .pathType)) (more (length (h .width)) (more (length (h .begin)) (more (length (h .end)) (more (each (Told.point r d) point (h .points)) done))))))
     where
       length : {u : Option Unit} {q : Option ℤ} → Draws.Both (Draws.AlikeCoordinate r d) u q → T (Told.both (Told.coordinate r d) u q)
       length = both (Told.coordinate r d) coordinate
@@ -166,7 +173,7 @@ module _ (r : GdsRoundingPolicy) (d : Float) where
   body (Draws.box h) = box h
 
   element : (e : S.Element) (w : Worth) → Draws.AlikeElement r d e w → All T (Told.element r d e w)
-  element e w h = more (all (body (h .body))) (more (each Told.property property (h .properties)) done)
+  element e w h = more (number (h .flags)) (more (integer (h .plex)) (more (all (body (h .body))) (more (each Told.property property (h .properties)) done)))
 
   pub told : {c : Cell} {s : Drawn} → Draws.Alike r d c s → All T (Told.told r d c s)
   told h = more (bytes (h .name)) (more (each (Told.element r d) element (h .elements)) done)

@@ -86,6 +86,8 @@ corners = three ++ minusTwo ++ fraction ++ three
 abbrev box : List S.Property → Option S.Element
 box qs =
     some (record {
+      flags = none;
+      plex = none;
       body = S.box (record { layer = 1; boxtype = 2; first = at (whole (pos 3)) (U.Integer (negsuc 1) (bits two)); second = at (double twoAndHalf) (whole (pos 3)) });
       properties = qs;
     })

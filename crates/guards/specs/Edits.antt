@@ -1,14 +1,14 @@
--- Edits of the structure of specs/Sample (document 01, "What a structure draws", its last paragraph; the box: document 02, request 3). Each of `wrong` changes one thing that is drawn, and the structure draws another cell.
+-- Edits of the structure of specs/Sample (document 01, "What a structure draws", its last paragraph; the box: document 02, request 3; flags and plex numbers, of which it has none: its request 5, and option_guards). Each of `wrong` changes one thing that is drawn, and the structure draws another cell.
 -- No edit of `alike` changes anything that is drawn, and the structure still draws the sheet's. Under nearest and d = 1. Assumes nothing.
 use mathlib.Core.List.{List, [], _∷_, _++_}
 use Prim.Native.Nat.{ℕ}
 use Rattle.guards.specs.Question.{Question, x}
-use Rattle.guards.specs.Sample.{sheet, records, replaced}
+use Rattle.guards.specs.Sample.{records, replaced}
 use Rattle.guards.specs.Values.{one}
 
--- what is asked of the edited structure
-abbrev pub asked : List ℕ → Question
-asked b = record { policy = 0; unit = one; sheet = sheet; bytes = b }
+-- what is asked of a sheet and an edited structure
+abbrev pub asked : List ℕ → List ℕ → Question
+asked s b = record { policy = 0; unit = one; sheet = s; bytes = b }
 
 -- n records from record k on, and what stands in their place
 unfoldable pub edit : ℕ → ℕ → List ℕ → List ℕ
@@ -127,6 +127,14 @@ wrong =
     ∷ edit 54 1 (x 6 0x00062c066300) {- a box: value -}
     ∷ edit 53 2 [] {- a box: a property fewer -}
     ∷ edit 55 0 (x 12 0x00062b02000300062c066200) {- a box: a property more -}
+    ∷ edit 3 0 (x 6 0x000626010000) {- a polygon: flags of 0 where there are none -}
+    ∷ edit 3 0 (x 8 0x00082f0300000000) {- a polygon: a plex number of 0 where there is none -}
+    ∷ edit 12 0 (x 6 0x000626010000) {- a path: flags of 0 where there are none -}
+    ∷ edit 21 0 (x 8 0x00082f0300000000) {- a text: a plex number of 0 where there is none -}
+    ∷ edit 36 0 (x 6 0x000626010000) {- a reference: flags of 0 where there are none -}
+    ∷ edit 40 0 (x 6 0x000626010000) {- an array: flags of 0 where there are none -}
+    ∷ edit 40 0 (x 8 0x00082f0300000000) {- an array: a plex number of 0 where there is none -}
+    ∷ edit 50 0 (x 8 0x00082f0300000000) {- a box: a plex number of 0 where there is none -}
     ∷ edit 35 4 [] {- an element fewer -}
     ∷ edit 56 0 (x 32 0x0004150000060d02000100062a020001000c1003000000000000000000041100) {- an element more -}
     ∷ edit 30 9 (x 58 0x00040a00000612064200000c10030000000500000006000411000004150000060d02000600062a020007000c1003000000020000000200041100) {- elements in another order -}

@@ -1,5 +1,5 @@
 -- Edits of the structure of specs/Sample that reading refuses, each with its fault and its block: one or more for each condition of document 01, "What a structure draws", its second and third
--- paragraphs (boxes: document 02, request 3); and one record changed, left out, doubled or exchanged with the next, in turn. Assumes nothing.
+-- paragraphs (boxes: document 02, request 3; flags and plex numbers: its request 5); and one record changed, left out, doubled or exchanged with the next, in turn. Assumes nothing.
 use mathlib.Core.List.{List, [], _∷_, _++_}
 use Prim.Native.Nat.{ℕ, suc, _+_}
 use Rattle.refusal.specs.declared.Refusal.the-variants as R
@@ -77,6 +77,34 @@ refusals =
     ∷ stop 7 1 [] notOfGrammar 1 {- PROPATTR without PROPVALUE -}
     ∷ stop 6 1 [] notOfGrammar 1 {- PROPVALUE without PROPATTR -}
     ∷ stop 10 1 [] notOfGrammar 1 {- no ENDEL -}
+    {- "The records ELFLAGS and PLEX follow the element's first record, in this order"; "Reading takes them there, each may be missing" -}
+    ∷ stop 3 0 (x 14 0x00082f0300000001000626010001) notOfGrammar 1 {- PLEX before ELFLAGS -}
+    ∷ stop 3 0 (x 12 0x000626010001000626010001) notOfGrammar 1 {- ELFLAGS twice -}
+    ∷ stop 3 0 (x 16 0x00082f030000000100082f0300000001) notOfGrammar 1 {- PLEX twice -}
+    ∷ stop 3 0 (x 20 0x00062601000100082f0300000001000626010001) notOfGrammar 1 {- ELFLAGS again, after PLEX -}
+    ∷ stop 2 0 (x 6 0x000626010001) notOfGrammar 0 {- ELFLAGS before the first record -}
+    ∷ stop 2 0 (x 8 0x00082f0300000001) notOfGrammar 0 {- PLEX before it -}
+    ∷ stop 2 1 (x 6 0x000626010001) notOfGrammar 0 {- ELFLAGS for it -}
+    ∷ stop 1 0 (x 6 0x000626010001) notOfGrammar 0 {- ELFLAGS before STRNAME -}
+    ∷ stop 4 0 (x 6 0x000626010001) notOfGrammar 1 {- ELFLAGS after LAYER -}
+    ∷ stop 4 0 (x 8 0x00082f0300000001) notOfGrammar 1 {- PLEX after LAYER -}
+    ∷ stop 13 0 (x 6 0x000626010001) notOfGrammar 2 {- ELFLAGS after it, in a path -}
+    ∷ stop 22 0 (x 8 0x00082f0300000001) notOfGrammar 3 {- PLEX after it, in a text -}
+    ∷ stop 32 0 (x 8 0x00082f0300000001) notOfGrammar 4 {- PLEX after it, in a node -}
+    ∷ stop 51 0 (x 6 0x000626010001) notOfGrammar 8 {- ELFLAGS after it, in a box -}
+    ∷ stop 37 0 (x 6 0x000626010001) notOfGrammar 5 {- ELFLAGS after SNAME -}
+    ∷ stop 41 0 (x 8 0x00082f0300000001) notOfGrammar 6 {- PLEX after it, in an array -}
+    ∷ stop 6 0 (x 6 0x000626010001) notOfGrammar 1 {- ELFLAGS after XY -}
+    ∷ stop 10 0 (x 8 0x00082f0300000001) notOfGrammar 1 {- PLEX before ENDEL -}
+    ∷ stop 3 54 (x 6 0x000626010001) noRecord 1 {- nothing after ELFLAGS -}
+    ∷ stop 3 54 [] noRecord 1 {- nothing after the first record -}
+    ∷ stop 3 0 (x 6 0x000626020001) noRecord 1 {- an ELFLAGS that is an integer -}
+    ∷ stop 3 0 (x 8 0x0008260100000001) noRecord 1 {- of 4 bytes -}
+    ∷ stop 3 0 (x 4 0x00042601) noRecord 1 {- of none -}
+    ∷ stop 3 0 (x 8 0x00082f0100000001) noRecord 1 {- a PLEX of bits -}
+    ∷ stop 3 0 (x 6 0x00062f030001) noRecord 1 {- of 2 bytes -}
+    ∷ stop 3 0 (x 12 0x000c2f030000000000000001) noRecord 1 {- of 8 -}
+    ∷ stop 3 0 (x 4 0x00042f03) noRecord 1 {- of none -}
     {- "only after a STRANS, MAG .. and ANGLE"; "A STRANS is 0x8000, reflection, or 0, none." -}
     ∷ stop 24 2 (x 18 0x000c1b05412000000000000000061a018000) notOfGrammar 3 {- MAG before STRANS -}
     ∷ stop 24 1 [] notOfGrammar 3 {- MAG without STRANS -}

@@ -1,11 +1,11 @@
--- Elements that fail two checks that follow one another, for each kind (document 01, "Who can cause which refusal": "in an element its function's order in mod.rs"; boxes: document 02, request 3), with the refusal that comes
+-- Elements that fail two checks that follow one another, for each kind (document 01, "Who can cause which refusal": "in an element its function's order in mod.rs"; boxes: document 02, request 3; flags: its request 5), with the refusal that comes
 -- first. Two checks of one number cannot be told apart: layer and type, columns and rows, the two spacings of 12, sine and cosine, magnification's and degrees' 14. Under nearest and d = 1 where
 -- nothing else is said. Assumes nothing.
 use mathlib.Core.Bool.{false}
 use mathlib.Core.Option.{Option, none, some}
 use mathlib.Core.List.{List, [], _∷_}
 use Prim.Native.Nat.{ℕ}
-use lib.IntN.{pos}
+use lib.IntN.{pos, negsuc}
 use lib.Ieee.{Float}
 use Rattle.refusal.specs.declared.Refusal.{Refusal}
 use Rattle.refusal.specs.declared.Refusal.the-variants as R
@@ -76,7 +76,7 @@ wordy = x 513 0
 -- ---- elements
 
 abbrev by : GdsRoundingPolicy → Float → S.Body → List S.Property → Refusal → Row
-by policy d b qs r = record { policy = policy; unit = d; element = record { body = b; properties = qs }; first = r }
+by policy d b qs r = record { policy = policy; unit = d; element = record { flags = none; plex = none; body = b; properties = qs }; first = r }
 
 abbrev row : S.Body → List S.Property → Refusal → Row
 row = by Nearest one
@@ -120,6 +120,14 @@ over = U.Float (bits 0x7fe0000000000000) one
 
 abbrev under : Unit
 under = U.Float (bits 0x7fdfffffffffffff) one
+
+-- with flags of 4, for 26
+abbrev flagged : GdsRoundingPolicy → S.Body → List S.Property → Row
+flagged policy b qs = record { policy = policy; unit = one; element = record { flags = some 4; plex = none; body = b; properties = qs }; first = R.Flags }
+
+-- with flags of 3 and a plex number, which pass
+abbrev carried : S.Body → List S.Property → Refusal → Row
+carried b qs r = record { policy = Nearest; unit = one; element = record { flags = some 3; plex = some (negsuc 0); body = b; properties = qs }; first = r }
 
 -- a coordinate's own checks, in a node
 abbrev lone : Unit → S.Body
@@ -245,4 +253,34 @@ arrays =
     ∷ widely (array o o (at under over)) [] R.OutOfRange {- the rows' x, then their y -}
     ∷ widely (array o o (at good over)) long R.NotFinite {- the rows' y, then a value -}
     ∷ row (array o o o) long R.StringLength {- a value -}
+    ∷ []
+
+-- "26 flags above 3, directly after the block's form check": before every other check of an element
+unfoldable pub flags : List Row
+flags =
+    flagged Nearest (reference [] 1 1 one zero zero one o none none) [] {- 26, then 7 -}
+    ∷ flagged Nearest (S.polygon (shape 1 1 (o ∷ o ∷ o ∷ []))) [] {- then 8: a polygon, a path, a node -}
+    ∷ flagged Nearest (path 1 1 good good good (o ∷ [])) []
+    ∷ flagged Nearest (S.node (shape 1 1 [])) []
+    ∷ flagged Nearest (S.polygon (shape 256 1 (o ∷ o ∷ o ∷ o ∷ []))) [] {- then 9: a polygon, a path, a text, a node, a box -}
+    ∷ flagged Nearest (path 1 256 good good good (o ∷ o ∷ [])) []
+    ∷ flagged Nearest (text 256 [] one zero o) []
+    ∷ flagged Nearest (S.node (shape 1 256 (o ∷ []))) []
+    ∷ flagged Nearest (box 256 1 o o) []
+    ∷ flagged Nearest (text 1 wordy one zero o) [] {- then 10, of a text -}
+    ∷ flagged Nearest (reference B 0 1 one zero zero one o none none) [] {- then 11 -}
+    ∷ flagged Nearest (reference B 2 1 one zero zero one o none none) [] {- then 12 -}
+    ∷ flagged Nearest (text 1 [] zero zero o) [] {- then 13 -}
+    ∷ flagged Nearest (text 1 [] one endless o) [] {- then 14 -}
+    ∷ flagged Nearest (reference B 2 1 one zero two one o (some o) none) [] {- then 15 -}
+    ∷ flagged Nearest (lone unitless) [] {- then 16 to 19 -}
+    ∷ flagged Nearest (lone huge) []
+    ∷ flagged ErrorIfOffGrid (lone off) []
+    ∷ flagged Nearest (lone far) []
+    ∷ flagged Nearest (S.polygon (shape 1 1 (o ∷ o ∷ o ∷ p other ∷ []))) [] {- then 20 -}
+    ∷ flagged Nearest (lone good) long {- then 10, of a value -}
+    ∷ carried (reference [] 0 1 one zero zero one o none none) [] R.Name {- what passes leaves the order as it is -}
+    ∷ carried (S.polygon (shape 256 1 (o ∷ o ∷ o ∷ []))) [] R.PointCount
+    ∷ carried (text 256 wordy one zero o) [] R.LayerOrType
+    ∷ carried (box 1 1 o (at good unitless)) long R.SourceUnit
     ∷ []

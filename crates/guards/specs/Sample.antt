@@ -1,8 +1,8 @@
 -- One cell with every kind: its sheet, and the records of the structure that it is written to (document 01, "Input" and "Result one"; the box: document 02, request 3). The bytes are by hand; proofs/Whole shows that the
 -- writer's definition gives these records. The other tables edit them: records k to k + n - 1 replaced. Assumes nothing.
 use mathlib.Core.List.{List, [], _∷_, _++_}
-use Prim.Native.Nat.{ℕ, zero, suc}
-use lib.ListN.{drop}
+use Prim.Native.Nat.{ℕ, zero, suc, _+_, _*_}
+use lib.ListN.{length, drop}
 use Rattle.guards.specs.Question.{x}
 
 abbrev pub flat : List (List ℕ) → List ℕ
@@ -13,6 +13,17 @@ abbrev pub replaced : ℕ → ℕ → List ℕ → List (List ℕ) → List ℕ
 replaced zero n b rs = b ++ flat (drop n rs)
 replaced (suc k) n b [] = []
 replaced (suc k) n b (r ∷ rs) = r ++ replaced k n b rs
+
+-- ---- a sheet of blocks: the count; offset and length of each block, the first of which is at e; the blocks
+
+abbrev pairs : ℕ → List (List ℕ) → List ℕ
+pairs e [] = []
+pairs e (b ∷ bs) = x 4 e ++ x 4 (length b) ++ pairs (e + length b) bs
+
+abbrev pub sheetOf : List (List ℕ) → List ℕ
+sheetOf bs = x 4 (length bs) ++ pairs (4 + 8 * length bs) bs ++ flat bs
+
+-- ---- the cell
 
 -- a polygon with two properties, a path with every length, a text, a node at (1.5, 2), a reference, an array of 2 × 3, a path with nothing that may be absent, and a box from (5.25, 3 in a unit of 2) to the left and below
 unfoldable pub sheet : List ℕ

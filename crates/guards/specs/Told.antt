@@ -1,4 +1,4 @@
--- Demand 3's comparison told a second time, as tests that compute (document 01, "What a structure draws", its last paragraph; boxes: document 02, request 3; the bounds are the demand's). Bounds and formulas stand
+-- Demand 3's comparison told a second time, as tests that compute (document 01, "What a structure draws", its last paragraph; boxes: document 02, request 3; flags and plex numbers: its request 5; the bounds are the demand's). Bounds and formulas stand
 -- written out: nothing is taken from cell/specs/Draws or conversion/specs/Close. A structure draws a cell exactly where it passes (proofs/ToldLaws, AlikeLaws, DecidedLaws), so a clause
 -- that is weakened or added on one side alone is refused. Assumes nothing.
 use mathlib.Core.Bool.{Bool, true, false, not, _&&_}
@@ -96,8 +96,12 @@ byKind b p t n s a q (D.box w) = q w
 abbrev pub never : {A : Type 0} → A → Tests
 never a = false ∷ []
 
-abbrev pub pathType : ℕ → ℕ → Tests
-pathType t u = eqb t u ∷ []
+-- path types and flags; plex numbers
+abbrev pub number : ℕ → ℕ → Tests
+number m n = eqb m n ∷ []
+
+abbrev pub integer : ℤ → ℤ → Tests
+integer y z = sameInt y z ∷ []
 
 abbrev turnedBy : S.Reference → Option (Point Unit) → Point Float
 turnedBy e s = turned (e .sine) (e .cosine) (spacingAt s)
@@ -143,7 +147,7 @@ module _ (r : GdsRoundingPolicy) (d : Float) where
   path e w =
       eqb (e .layer) (w .layer)
       ∷ eqb (e .datatype) (w .datatype)
-      ∷ both pathType (e .pathType) (w .pathType)
+      ∷ both number (e .pathType) (w .pathType)
       ∷ both coordinate (e .width) (w .width)
       ∷ both coordinate (e .begin) (w .begin)
       ∷ both coordinate (e .end) (w .end)
@@ -205,8 +209,14 @@ module _ (r : GdsRoundingPolicy) (d : Float) where
   body (S.reference e) = byKind never never never never (sref e) (aref e) never
   body (S.box e) = byKind never never never never never never (box e)
 
+  -- "absent alike, else equal"
   abbrev pub element : S.Element → Worth → Tests
-  element e w = all (body (e .body) (w .body)) ∷ each property (e .properties) (w .properties) ∷ []
+  element e w =
+      both number (e .flags) (w .flags)
+      ∷ both integer (e .plex) (w .plex)
+      ∷ all (body (e .body) (w .body))
+      ∷ each property (e .properties) (w .properties)
+      ∷ []
 
   -- ---- the cell
 

@@ -40,31 +40,45 @@ cell =
       head = record { name = 65 ∷ []; stamps = 0 ∷ 0 ∷ 0 ∷ 0 ∷ 0 ∷ 0 ∷ 0 ∷ 0 ∷ 0 ∷ 0 ∷ 0 ∷ 0 ∷ [] };
       elements =
           record {
+            flags = none;
+            plex = none;
             body = S.polygon (record { layer = 1; datatype = 2; points = corner 0 0 ∷ corner 4 0 ∷ corner 4 4 ∷ corner 0 0 ∷ [] });
             properties = record { attribute = 1; value = 120 ∷ [] } ∷ record { attribute = 2; value = 121 ∷ 122 ∷ [] } ∷ [];
           }
           ∷ record {
+            flags = none;
+            plex = none;
             body = S.path (record { layer = 3; datatype = 4; pathType = some 2; width = some (whole (pos 5)); begin = some (whole (pos 6)); end = some (whole (pos 7)); points = corner 0 0 ∷ corner 9 8 ∷ [] });
             properties = [];
           }
           ∷ record {
+            flags = none;
+            plex = none;
             body = S.text (record { layer = 5; texttype = 300; vertical = 1; horizontal = 2; reflection = true; magnification = bits 0x4000000000000000; degrees = bits 0x4056800000000000; origin = at (whole (pos 3)) (whole (negsuc 3)); string = 97 ∷ 98 ∷ 99 ∷ [] });
             properties = [];
           }
-          ∷ record { body = S.node (record { layer = 6; datatype = 7; points = at (U.Float (bits 0x3ff8000000000000) one) (whole (pos 2)) ∷ [] }); properties = [] }
+          ∷ record { flags = none; plex = none; body = S.node (record { layer = 6; datatype = 7; points = at (U.Float (bits 0x3ff8000000000000) one) (whole (pos 2)) ∷ [] }); properties = [] }
           ∷ record {
+            flags = none;
+            plex = none;
             body = S.reference (record { name = 66 ∷ []; columns = 1; rows = 1; reflection = false; magnification = one; degrees = zero; sine = zero; cosine = zero; origin = corner 5 6; columnSpacing = none; rowSpacing = none });
             properties = [];
           }
           ∷ record {
+            flags = none;
+            plex = none;
             body = S.reference (record { name = 67 ∷ []; columns = 2; rows = 3; reflection = false; magnification = one; degrees = zero; sine = zero; cosine = one; origin = corner 10 20; columnSpacing = some (corner 30 1); rowSpacing = some (corner 2 40) });
             properties = [];
           }
           ∷ record {
+            flags = none;
+            plex = none;
             body = S.path (record { layer = 8; datatype = 9; pathType = none; width = none; begin = none; end = none; points = corner 1 2 ∷ corner 3 4 ∷ [] });
             properties = [];
           }
           ∷ record {
+            flags = none;
+            plex = none;
             body = S.box (record { layer = 10; boxtype = 11; first = at (U.Float (bits 0x4015000000000000) one) (U.Integer (pos 3) (bits 0x4000000000000000)); second = at (whole (negsuc 1)) (whole (negsuc 2)) });
             properties = record { attribute = 3; value = 98 ∷ [] } ∷ [];
           }
@@ -79,28 +93,40 @@ structure =
       name = 65 ∷ 0 ∷ [];
       elements =
           record {
+            flags = none;
+            plex = none;
             body = D.boundary (record { layer = 1; datatype = 2; points = spot 0 0 ∷ spot 4 0 ∷ spot 4 4 ∷ spot 0 0 ∷ [] });
             properties = record { attribute = 1; value = 120 ∷ 0 ∷ [] } ∷ record { attribute = 2; value = 121 ∷ 122 ∷ [] } ∷ [];
           }
           ∷ record {
+            flags = none;
+            plex = none;
             body = D.path (record { layer = 3; datatype = 4; pathType = some 2; width = some (pos 5); begin = some (pos 6); end = some (pos 7); points = spot 0 0 ∷ spot 9 8 ∷ [] });
             properties = [];
           }
           ∷ record {
+            flags = none;
+            plex = none;
             body = D.text (record { layer = 5; texttype = 300; presentation = some 6; transform = some (record { reflection = true; magnification = some (0x41 ∷ 0x20 ∷ 0 ∷ 0 ∷ 0 ∷ 0 ∷ 0 ∷ 0 ∷ []); angle = some (0x42 ∷ 0x5a ∷ 0 ∷ 0 ∷ 0 ∷ 0 ∷ 0 ∷ 0 ∷ []) }); origin = at (pos 3) (negsuc 3); string = 97 ∷ 98 ∷ 99 ∷ 0 ∷ [] });
             properties = [];
           }
-          ∷ record { body = D.node (record { layer = 6; datatype = 7; points = spot 2 2 ∷ [] }); properties = [] }
-          ∷ record { body = D.sref (record { name = 66 ∷ 0 ∷ []; transform = none; origin = spot 5 6 }); properties = [] }
+          ∷ record { flags = none; plex = none; body = D.node (record { layer = 6; datatype = 7; points = spot 2 2 ∷ [] }); properties = [] }
+          ∷ record { flags = none; plex = none; body = D.sref (record { name = 66 ∷ 0 ∷ []; transform = none; origin = spot 5 6 }); properties = [] }
           ∷ record {
+            flags = none;
+            plex = none;
             body = D.aref (record { name = 67 ∷ 0 ∷ []; transform = none; columns = 2; rows = 3; origin = spot 10 20; columnStep = spot 30 1; rowStep = spot 2 40 });
             properties = [];
           }
           ∷ record {
+            flags = none;
+            plex = none;
             body = D.path (record { layer = 8; datatype = 9; pathType = none; width = none; begin = none; end = none; points = spot 1 2 ∷ spot 3 4 ∷ [] });
             properties = [];
           }
           ∷ record {
+            flags = none;
+            plex = none;
             body = D.box (record { layer = 10; datatype = 11; points = spot 5 6 ∷ at (negsuc 1) (pos 6) ∷ at (negsuc 1) (negsuc 2) ∷ at (pos 5) (negsuc 2) ∷ spot 5 6 ∷ [] });
             properties = record { attribute = 3; value = 98 ∷ 0 ∷ [] } ∷ [];
           }
@@ -117,28 +143,40 @@ drawn =
       name = 65 ∷ [];
       elements =
           record {
+            flags = none;
+            plex = none;
             body = D.boundary (record { layer = 1; datatype = 2; points = spot 0 0 ∷ spot 4 0 ∷ spot 4 4 ∷ spot 0 0 ∷ [] });
             properties = record { attribute = 1; value = 120 ∷ [] } ∷ record { attribute = 2; value = 121 ∷ 122 ∷ [] } ∷ [];
           }
           ∷ record {
+            flags = none;
+            plex = none;
             body = D.path (record { layer = 3; datatype = 4; pathType = some 2; width = some (pos 5); begin = some (pos 6); end = some (pos 7); points = spot 0 0 ∷ spot 9 8 ∷ [] });
             properties = [];
           }
           ∷ record {
+            flags = none;
+            plex = none;
             body = D.text (record { layer = 5; texttype = 300; presentation = 6; transform = record { reflection = true; magnification = pos (2 * 2 ^ 1074); degrees = pos (90 * 2 ^ 1074) }; origin = at (pos 3) (negsuc 3); string = 97 ∷ 98 ∷ 99 ∷ [] });
             properties = [];
           }
-          ∷ record { body = D.node (record { layer = 6; datatype = 7; points = spot 2 2 ∷ [] }); properties = [] }
-          ∷ record { body = D.sref (record { name = 66 ∷ []; transform = plain; origin = spot 5 6 }); properties = [] }
+          ∷ record { flags = none; plex = none; body = D.node (record { layer = 6; datatype = 7; points = spot 2 2 ∷ [] }); properties = [] }
+          ∷ record { flags = none; plex = none; body = D.sref (record { name = 66 ∷ []; transform = plain; origin = spot 5 6 }); properties = [] }
           ∷ record {
+            flags = none;
+            plex = none;
             body = D.aref (record { name = 67 ∷ []; transform = plain; columns = 2; rows = 3; origin = spot 10 20; columnStep = spot 30 1; rowStep = spot 2 40 });
             properties = [];
           }
           ∷ record {
+            flags = none;
+            plex = none;
             body = D.path (record { layer = 8; datatype = 9; pathType = none; width = none; begin = none; end = none; points = spot 1 2 ∷ spot 3 4 ∷ [] });
             properties = [];
           }
           ∷ record {
+            flags = none;
+            plex = none;
             body = D.box (record { layer = 10; datatype = 11; points = spot 5 6 ∷ at (negsuc 1) (pos 6) ∷ at (negsuc 1) (negsuc 2) ∷ at (pos 5) (negsuc 2) ∷ spot 5 6 ∷ [] });
             properties = record { attribute = 3; value = 98 ∷ [] } ∷ [];
           }

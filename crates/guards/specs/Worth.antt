@@ -1,4 +1,4 @@
--- Elements as bytes, with what their records say and what that is worth, both by hand (document 01, "What a structure draws", its second and third paragraphs; boxes: document 02, request 3): what may be missing and what it is
+-- Elements as bytes, with what their records say and what that is worth, both by hand (document 01, "What a structure draws", its second and third paragraphs; boxes: document 02, request 3; flags and plex numbers, of all kinds in specs/Options: its request 5): what may be missing and what it is
 -- then, strings with their zero bytes, signs, steps. The rows together are the elements of one structure. Assumes nothing.
 use mathlib.Core.Bool.{Bool, true, false}
 use mathlib.Core.Option.{Option, none, some}
@@ -28,7 +28,7 @@ property a v = record { attribute = a; value = v }
 
 -- kind; layer, type, points, properties
 abbrev shaped : {P T : Type 0} → (D.Shape → D.Body P T) → ℕ → ℕ → List (Point ℤ) → List D.Property → D.Element P T
-shaped k l t ps qs = record { body = k (record { layer = l; datatype = t; points = ps }); properties = qs }
+shaped k l t ps qs = record { flags = none; plex = none; body = k (record { layer = l; datatype = t; points = ps }); properties = qs }
 
 abbrev boundary : {P T : Type 0} → ℕ → ℕ → List (Point ℤ) → List D.Property → D.Element P T
 boundary = shaped D.boundary
@@ -41,7 +41,7 @@ box = shaped D.box
 
 -- a path on layer 1, of type 2, of one point at 0, is worth what it says
 abbrev path : {P T : Type 0} → Option ℕ → Option ℤ → Option ℤ → Option ℤ → D.Element P T
-path t w b e = record { body = D.path (record { layer = 1; datatype = 2; pathType = t; width = w; begin = b; end = e; points = p (pos 0) (pos 0) ∷ [] }); properties = [] }
+path t w b e = record { flags = none; plex = none; body = D.path (record { layer = 1; datatype = 2; pathType = t; width = w; begin = b; end = e; points = p (pos 0) (pos 0) ∷ [] }); properties = [] }
 
 abbrev pathed : List ℕ → Option ℕ → Option ℤ → Option ℤ → Option ℤ → Row
 pathed bytes t w b e = row bytes (path t w b e) (path t w b e)
@@ -77,14 +77,18 @@ right = pos (90 * one)
 
 -- a text on layer 5, of type 300, at (3, -4): presentation, transform and string, said and worth
 abbrev texted : {P T : Type 0} → P → T → List ℕ → D.Element P T
-texted q t s = record { body = D.text (record { layer = 5; texttype = 300; presentation = q; transform = t; origin = p (pos 3) (negsuc 3); string = s }); properties = [] }
+texted q t s = record { flags = none; plex = none; body = D.text (record { layer = 5; texttype = 300; presentation = q; transform = t; origin = p (pos 3) (negsuc 3); string = s }); properties = [] }
 
 abbrev sref : {P T : Type 0} → List ℕ → T → Point ℤ → D.Element P T
-sref n t o = record { body = D.sref (record { name = n; transform = t; origin = o }); properties = [] }
+sref n t o = record { flags = none; plex = none; body = D.sref (record { name = n; transform = t; origin = o }); properties = [] }
 
 -- columns, rows, origin, column and row step
 abbrev aref : {P T : Type 0} → List ℕ → T → ℕ → ℕ → Point ℤ → Point ℤ → Point ℤ → D.Element P T
-aref n t c r o a b = record { body = D.aref (record { name = n; transform = t; columns = c; rows = r; origin = o; columnStep = a; rowStep = b }); properties = [] }
+aref n t c r o a b = record { flags = none; plex = none; body = D.aref (record { name = n; transform = t; columns = c; rows = r; origin = o; columnStep = a; rowStep = b }); properties = [] }
+
+-- with an ELFLAGS and a PLEX
+abbrev both : {P T : Type 0} → ℕ → ℤ → D.Element P T → D.Element P T
+both n z e = record { flags = some n; plex = some z; body = e .body; properties = e .properties }
 
 -- ---- the rows
 
@@ -118,6 +122,8 @@ rows =
     ∷ row (x 50 0x00040b000006120642000008130200020003001c10030000000100000001fffffffb0000000500000004fffffff800041100) (aref (66 ∷ 0 ∷ []) none 2 3 (p (pos 1) (pos 1)) (p (negsuc 2) (pos 2)) (p (pos 1) (negsuc 2))) (aref (66 ∷ []) (transform false one (pos 0)) 2 3 (p (pos 1) (pos 1)) (p (negsuc 2) (pos 2)) (p (pos 1) (negsuc 2))) {- an array of 2 × 3 with steps (-3, 2) and (1, -3) -}
     ∷ row (x 68 0x00040b0000061206424200061a018000000c1c05425a00000000000000081302ffff0001001c100300000000000000000000ffffffff0001000000070000000700041100) (aref (66 ∷ 66 ∷ []) (strans true none ninety) 65535 1 (p (pos 0) (pos 0)) (p (pos 1) (negsuc 0)) (p (pos 7) (pos 7))) (aref (66 ∷ 66 ∷ []) (transform true one right) 65535 1 (p (pos 0) (pos 0)) (p (pos 1) (negsuc 0)) (p (pos 7) (pos 7))) {- an array of 65,535 columns, with a transform -}
     ∷ row (x 50 0x00040b000006120642000008130200010001001c100300000001000000020000000900000009000000080000000800041100) (aref (66 ∷ 0 ∷ []) none 1 1 (p (pos 1) (pos 2)) (p (pos 8) (pos 7)) (p (pos 7) (pos 6))) (sref (66 ∷ []) (transform false one (pos 0)) (p (pos 1) (pos 2))) {- an array of one is worth a reference -}
+    ∷ row (x 64 0x00040b0000062601ffff00082f03fffffffe0006120642000008130200010001001c100300000001000000020000000900000009000000080000000800041100) (both 65535 (negsuc 1) (aref (66 ∷ 0 ∷ []) none 1 1 (p (pos 1) (pos 2)) (p (pos 8) (pos 7)) (p (pos 7) (pos 6)))) (both 65535 (negsuc 1) (sref (66 ∷ []) (transform false one (pos 0)) (p (pos 1) (pos 2)))) {- and so with flags and a plex number, which stay -}
+    ∷ row (x 50 0x0004080000062601000000082f030000000000060d02000000060e0200000004100300062b02000100062c06780000041100) (both 0 (pos 0) (boundary 0 0 [] (property 1 (120 ∷ 0 ∷ []) ∷ []))) (both 0 (pos 0) (boundary 0 0 [] (property 1 (120 ∷ []) ∷ []))) {- both of 0, and a property -}
     ∷ []
 
 -- ---- the structure of all rows: BGNSTR with the numbers 1 to 12 and STRNAME "AB" before them, ENDSTR after

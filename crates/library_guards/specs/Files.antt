@@ -1,5 +1,6 @@
--- One library of two cells: its sheet, what that holds, the records of its file, and edits of these (document 02, request 1, its file). Each of `wrong` changes one thing, and the file does not draw the library.
+-- One library of two cells: its sheet, what that holds, the records of its file, and edits of these (document 02, request 1, its file; flags and plex numbers: its request 5). Each of `wrong` changes one thing, and the file does not draw the library.
 -- No edit of `alike` changes anything that a structure draws. Under nearest and d = 1; the bytes are by hand. Assumes nothing.
+use mathlib.Core.Option.{none}
 use mathlib.Core.List.{List, [], _∷_, _++_}
 use Prim.Native.Nat.{ℕ}
 use lib.IntN.{pos}
@@ -45,7 +46,7 @@ cellA =
     record {
       head = record { name = 65 ∷ []; stamps = zeros };
       elements =
-          record { body = S.node (record { layer = 1; datatype = 2; points = record { x = U.Float (bits 0x4004000000000000) one; y = U.Integer (pos 0) one } ∷ [] }); properties = [] }
+          record { flags = none; plex = none; body = S.node (record { layer = 1; datatype = 2; points = record { x = U.Float (bits 0x4004000000000000) one; y = U.Integer (pos 0) one } ∷ [] }); properties = [] }
           ∷ [];
     }
 
@@ -131,6 +132,8 @@ wrong =
     ∷ edit 9 1 (x 12 0x000c10030000000400000000) {- a point two beside -}
     ∷ edit 6 5 [] {- no node -}
     ∷ edit 7 1 (x 6 0x00060d020002) {- another layer -}
+    ∷ edit 7 0 (x 6 0x000626010000) {- flags where there are none -}
+    ∷ edit 7 0 (x 8 0x00082f0300000000) {- a plex number where there is none -}
     ∷ edit 13 1 (x 6 0x000606064300) {- another name of the last -}
     ∷ edit 11 1 [] {- no ENDSTR -}
     ∷ edit 12 0 (0 ∷ 0 ∷ []) {- bytes between the structures -}

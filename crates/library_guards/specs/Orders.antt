@@ -1,10 +1,9 @@
--- Libraries with two faults that follow one another in the order of the refusals, and what is answered, by hand (document 02, request 1, "Errors"; document 01, "Who can cause which refusal").
+-- Libraries with two faults that follow one another in the order of the refusals, and what is answered, by hand (document 02, requests 1 and 5, "Errors"; document 01, "Who can cause which refusal").
 -- Two checks of one number cannot be told apart: 23 of the pairs and of block 0, 24 of the two reals. 3 and 25, whose sheets and names are long, are in proofs/LimitsLaws, by law. Assumes nothing.
 use mathlib.Core.List.{List, [], _∷_, _++_}
-use Prim.Native.Nat.{ℕ, _+_, _*_}
-use lib.ListN.{length}
+use Prim.Native.Nat.{ℕ}
 use Rattle.guards.specs.Question.{x}
-use Rattle.guards.specs.Sample.{flat}
+use Rattle.guards.specs.Sample.{sheetOf}
 
 -- policy, d's bits, the sheet, the lengths of output and report; number, cell and block, or 0 and the file's length and entries
 pub record Row : Type 0 where
@@ -19,16 +18,7 @@ pub record Row : Type 0 where
   pub length : ℕ
   pub entries : ℕ
 
--- ---- sheets
-
--- offset and length of each block, the first of which is at e
-abbrev pairs : ℕ → List (List ℕ) → List ℕ
-pairs e [] = []
-pairs e (b ∷ bs) = x 4 e ++ x 4 (length b) ++ pairs (e + length b) bs
-
--- the count, the pairs, the blocks
-abbrev pub sheetOf : List (List ℕ) → List ℕ
-sheetOf bs = x 4 (length bs) ++ pairs (4 + 8 * length bs) bs ++ flat bs
+-- ---- parts
 
 abbrev one : ℕ
 one = 0x3ff0000000000000
@@ -72,6 +62,13 @@ layered = x 43 0x040100000200010140040000000000003ff0000000000000000000000000000
 
 abbrev pointless : List ℕ
 pointless = x 9 0x040001000200000000
+
+-- the first with flags of 4, for 26; with flags of 3 and a plex number of -1, which pass
+abbrev flagged : List ℕ
+flagged = x 45 0x1400040001000200010140040000000000003ff00000000000000000000000000000003ff00000000000000000
+
+abbrev carried : List ℕ
+carried = x 49 0x340003ffffffff0001000200010140040000000000003ff00000000000000000000000000000003ff00000000000000000
 
 -- and one at (2 ^ 30, 0), for 19 in a unit of 1/16
 abbrev distant : List ℕ
@@ -135,6 +132,7 @@ outsides =
     ∷ of (head one noDate) (noSheet ∷ []) 6 {- then a cell's 4 -}
     ∷ of (head one noDate) (sheetOf ((A ++ noDate) ∷ []) ∷ []) 6 {- then a cell's 6 -}
     ∷ of (head 0 noStamps) (noSheet ∷ []) 24 {- 24 of the user unit, then a cell's 4 -}
+    ∷ of (head 0 noStamps) (cell A (flagged ∷ []) ∷ []) 24 {- then a cell's 26 -}
     ∷ outside 0 1 (sheetOf (good ∷ noSheet ∷ [])) 24 {- 24 of d, then a cell's 4 -}
     ∷ outside 0 1 (sheetOf (good ∷ [])) 24 {- with no cell -}
     ∷ []
@@ -161,6 +159,13 @@ insides =
     ∷ inside (cell A [] ∷ sheetOf ((B ++ noDate) ∷ []) ∷ []) 6 1 0 {- the library's 6, cell 0's and cell 1's have cells of their own -}
     ∷ inside (sheetOf ((B ++ noDate) ∷ []) ∷ cell A [] ∷ []) 6 0 0
     ∷ of (head one noDate) (sheetOf ((B ++ noDate) ∷ []) ∷ []) 6
+    ∷ inside (cell A (ill flagged ∷ []) ∷ []) 5 0 1 {- 5, then 26 -}
+    ∷ inside (cell noName (flagged ∷ []) ∷ []) 7 0 0 {- 7 of the head, then 26 -}
+    ∷ inside (cell A (flagged ∷ pointless ∷ []) ∷ []) 26 0 1 {- 26, then the next block -}
+    ∷ inside (cell A (pointless ∷ flagged ∷ []) ∷ []) 8 0 1 {- a block, then 26 of the next -}
+    ∷ inside (cell A (node ∷ flagged ∷ []) ∷ noSheet ∷ []) 26 0 2 {- 26, then 4 of cell 1 -}
+    ∷ inside (cell A (carried ∷ []) ∷ cell B (flagged ∷ []) ∷ noSheet ∷ []) 26 1 1
+    ∷ inside (noSheet ∷ cell A (flagged ∷ []) ∷ []) 4 0 0 {- 4 of cell 0, then 26 -}
     ∷ []
 
 -- 172 bytes and an entry: "A" with the node, then "B"
@@ -172,6 +177,7 @@ unfoldable pub ends : List Row
 ends =
     record { policy = 0; unit = one; sheet = sheetOf (good ∷ cell A [] ∷ noSheet ∷ []); out = 0; report = 0; number = 4; cell = 1; block = 0; length = 0; entries = 0 } {- 4 of the last cell, then 21 -}
     ∷ record { policy = 0; unit = one; sheet = sheetOf (good ∷ cell A [] ∷ cell B (node ∷ layered ∷ []) ∷ []); out = 0; report = 0; number = 9; cell = 1; block = 2; length = 0; entries = 0 } {- its last block, then 21 -}
+    ∷ record { policy = 0; unit = one; sheet = sheetOf (good ∷ cell A [] ∷ cell B (flagged ∷ []) ∷ []); out = 0; report = 0; number = 26; cell = 1; block = 1; length = 0; entries = 0 } {- 26, then 21 -}
     ∷ into 171 36 two 21 {- 21, then 22 -}
     ∷ into 171 37 two 21
     ∷ into 0 0 two 21
@@ -184,4 +190,6 @@ ends =
     ∷ accepted 204 74 (sheetOf (good ∷ cell A (node ∷ []) ∷ cell B (node ∷ []) ∷ [])) 204 2 {- two entries -}
     ∷ into 204 73 (cell A (node ∷ []) ∷ cell B (node ∷ []) ∷ []) 22
     ∷ into 203 74 (cell A (node ∷ []) ∷ cell B (node ∷ []) ∷ []) 21
+    ∷ accepted 186 37 (sheetOf (good ∷ cell A (carried ∷ []) ∷ cell B [] ∷ [])) 186 1 {- 14 bytes more with flags and a plex number -}
+    ∷ into 185 37 (cell A (carried ∷ []) ∷ cell B [] ∷ []) 21
     ∷ []

@@ -1,7 +1,7 @@
 -- Shapes, paths and texts that were read are canonical. Assumes nothing.
 use mathlib.Core.Path.{_≡_, refl, ap, ap₂, _∙_}
 use mathlib.Core.Bool.{Bool, true}
-use mathlib.Core.Option.{Option, none, some, Option·some-injective, Option·none-ne-some}
+use mathlib.Core.Option.{Option, none, some}
 use mathlib.Core.List.{List, [], _∷_}
 use Prim.Native.Nat.{ℕ, suc, _+_, _*_, _/_, _%_, _≤_}
 use native.Mathlib.Nat.{le-trans}
@@ -43,7 +43,7 @@ use Rattle.reading.specs.Limits.{isPresentation, pointsLimit, recordLimi
 use Rattle.reading.specs.Cell.{lengthRead, pointsRead, Placing, shapeRead, textRead}
 use Rattle.reading.proofs.Kept.{Limited, KeptShape, KeptPath, KeptText}
 use Rattle.reading.proofs.ItemLaws.{polygon-limit, node-limit}
-use Rattle.reading.proofs.RealLaws.{one-fits, opt-all, Passes, turned}
+use Rattle.reading.proofs.RealLaws.{one-fits, opt-all, opt-at, Passes, turned}
 use Rattle.reading.proofs.Canon.{CanonBody}
 
 -- ---- checks that pass
@@ -158,10 +158,9 @@ node-canon e h =
 
 -- ---- paths
 
-path-type-passes : (o : Option ℕ) (n : ℕ) → Opt (λ k. k ≤ maxPathType) o → o ≡ some n → Passes PATH 0 (wordRecord PATHTYPE n)
+path-type-passes : (n : ℕ) → n ≤ maxPathType → Passes PATH 0 (wordRecord PATHTYPE n)
 unfolding recordLimit
-path-type-passes none n absent e = absurd (Option·none-ne-some n e)
-path-type-passes (some m) n (present h) e = let q : m ≡ n = Option·some-injective m n e in word-passes maxPathType n R.NotStructure (omega arith) (omega arith)
+path-type-passes n h = word-passes maxPathType n R.NotStructure (omega arith) h
 
 pub path-canon : (e : Path) → KeptPath e → CanonBody (D.path e)
 unfolding writeBody writePath pathRecords recordLimit pointsLimit _>>_
@@ -179,7 +178,7 @@ path-canon e h =
       again = refl;
       admitted =
           more (layer-passes PATH (e .layer) (h .layer)) (more (datatype-passes PATH (e .datatype) (h .datatype))
-          (opt-all (wordRecord PATHTYPE) (e .pathType) _ (λ n q. path-type-passes (e .pathType) n (h .pathType) q)
+          (opt-all (wordRecord PATHTYPE) (e .pathType) _ (λ n q. path-type-passes n (opt-at (h .pathType) q))
           (opt-all (longRecord WIDTH) (e .width) _ (λ n q. refl) (opt-all (longRecord BGNEXTN) (e .begin) _ (λ n q. refl) (opt-all (longRecord ENDEXTN) (e .end) _ (λ n q. refl)
           (more (xy-passes PATH (e .points) (h .points) (need-none _ R.PointCount count)) done))))));
       steps = tt;

@@ -1,18 +1,22 @@
 -- Elements that were read are canonical. Assumes nothing.
 use mathlib.Core.Path.{_≡_, refl, ap, _∙_}
+use mathlib.Core.Bool.{true}
+use mathlib.Core.Option.{Option, none, some}
 use mathlib.Core.List.{List, [], _∷_}
 use Prim.Native.Nat.{ℕ, suc, _+_, _≤_, _<_}
 use native.Mathlib.Omega.{arith}
 use borrow.Author.Tests.{le-leb, lt-ltb}
 use lib.ListN.{length}
+use lib.IntN.{ℤ}
 use Rattle.refusal.specs.declared.Refusal.the-variants as R
-use Rattle.parsing.specs.All.{All, done, more}
+use Rattle.parsing.specs.All.{All, done, more, Opt, absent, present}
 use Rattle.conversion.specs.Made.{pure}
 use Rattle.conversion.proofs.MadeLaws.{need-on, then-pure}
 use Rattle.sheet.specs.Element as S
 use Rattle.sheet.specs.Blocks.{maxPairs}
 use Rattle.sheet.proofs.Fine.{FineProperty}
-use Rattle.stream.specs.Records.{emptyRecord}
+use Rattle.stream.specs.Record.{ELFLAGS, PLEX}
+use Rattle.stream.specs.Records.{emptyRecord, bitsRecord, longRecord, optionRecords}
 use Rattle.stream.specs.Strings.{unpadded}
 use Rattle.stream.specs.Structure.{Property, SaidBody, Said}
 use Rattle.stream.specs.Structure as D
@@ -20,15 +24,16 @@ use Rattle.stream.specs.Drawn.{propertiesDrawn}
 use Rattle.stream.proofs.AppendLaws.{codeOf}
 use Rattle.stream.proofs.StringLaws.{padded-unpadded}
 use Rattle.stream.proofs.Admitted.{AdmittedTail, end, next}
-use Rattle.cell.specs.Limits.{maxValueLength}
-use Rattle.cell.specs.Write.{writeProperties, writeElement}
+use Rattle.cell.specs.Limits.{maxValueLength, maxFlags}
+use Rattle.cell.specs.Write.{flagsFit, writeProperties, writeElement}
 use Rattle.reading.specs.Limits.{maxProperties, recordLimit, sheetLimits}
 use Rattle.reading.specs.Cell.{propertiesRead}
-use Rattle.reading.proofs.Kept.{KeptBody, KeptProperty, KeptElement}
+use Rattle.reading.proofs.Kept.{Limited, KeptBody, KeptProperty, KeptElement}
 use Rattle.reading.proofs.Kept as K
-use Rattle.reading.proofs.RealLaws.{Passes}
+use Rattle.reading.proofs.KeptLaws.{opt-same}
+use Rattle.reading.proofs.RealLaws.{opt-all, opt-at, Passes}
 use Rattle.reading.proofs.Canon.{CanonBody, CanonElement}
-use Rattle.reading.proofs.BodyLaws.{need-none, string-fine, boundary-canon, node-canon, path-canon, text-canon}
+use Rattle.reading.proofs.BodyLaws.{need-none, word-passes, string-fine, boundary-canon, node-canon, path-canon, text-canon}
 use Rattle.reading.proofs.ReferenceLaws.{sref-canon, aref-canon}
 use Rattle.reading.proofs.BoxLaws.{box-canon}
 
@@ -40,6 +45,18 @@ body-canon (D.node e) (K.node h) = node-canon e h
 body-canon (D.sref e) (K.sref h) = sref-canon e h
 body-canon (D.aref e) (K.aref h) = aref-canon e h
 body-canon (D.box e) (K.box h) = box-canon e h
+
+-- ---- flags and plex numbers
+
+flags-fit : (o : Option ℕ) → Opt (Limited maxFlags) o → flagsFit o ≡ true
+flags-fit none absent = refl
+flags-fit (some n) (present h) = le-leb n maxFlags (h .most)
+
+-- PLEX has no limit
+options-pass : (kind : ℕ) (f : Option ℕ) (p : Option ℤ) → Opt (Limited maxFlags) f → All (Passes kind 0) (optionRecords f p [])
+unfolding recordLimit
+options-pass kind f p h =
+    opt-all (bitsRecord ELFLAGS) f _ (λ n q. let l = opt-at h q in word-passes maxFlags n R.Flags (l .word) (l .most)) (opt-all (longRecord PLEX) p [] (λ z q. refl) done)
 
 -- ---- properties
 
@@ -82,10 +99,21 @@ unfolding writeElement
 element-canon e h =
     let b = body-canon (e .body) (h .body) in
     record {
-      put = record { body = b .put; properties = e .properties };
-      writes = then-pure _ (b .writes) (then-pure _ (properties-write (e .properties) (h .properties)) refl);
-      drawn = ap (λ (w : _). record { body = w; properties = propertiesDrawn (e .properties) }) (b .drawn);
-      again = ap (λ (w : S.Body). record { body = w; properties = propertiesRead (e .properties) }) (b .again);
-      admitted = λ i l. record { first = first-passes (b .put) i l; body = b .admitted; steps = b .steps; tail = tail-admitted _ 0 (e .properties) (h .properties) (omega (arith, h .count)) };
-      fine = record { body = b .fine; properties = record { each = properties-fine (e .properties) (h .properties); count = omega (arith, properties-count (e .properties), h .count) } };
+      put = record { flags = e .flags; plex = e .plex; body = b .put; properties = e .properties };
+      writes = need-on _ R.Flags _ (flags-fit (e .flags) (h .flags)) ∙ then-pure _ (b .writes) (then-pure _ (properties-write (e .properties) (h .properties)) refl);
+      drawn = ap (λ (w : _). record { flags = e .flags; plex = e .plex; body = w; properties = propertiesDrawn (e .properties) }) (b .drawn);
+      again = ap (λ (w : S.Body). record { flags = e .flags; plex = e .plex; body = w; properties = propertiesRead (e .properties) }) (b .again);
+      admitted = λ i l. record {
+        first = first-passes (b .put) i l;
+        options = options-pass _ (e .flags) (e .plex) (h .flags);
+        body = b .admitted;
+        steps = b .steps;
+        tail = tail-admitted _ 0 (e .properties) (h .properties) (omega (arith, h .count));
+      };
+      fine = record {
+        flags = opt-same (λ n l. l .word) (e .flags) (h .flags);
+        plex = h .plex;
+        body = b .fine;
+        properties = record { each = properties-fine (e .properties) (h .properties); count = omega (arith, properties-count (e .properties), h .count) };
+      };
     }

@@ -27,11 +27,11 @@ use Rattle.gds_format.specs.Decode.{doubleOf}
 use Rattle.conversion.specs.Made.{Made, Done, refused, made, need, _>>=_, _>>_}
 use Rattle.conversion.specs.Made as Made
 use Rattle.sheet.specs.Element.{maxPathType}
-use Rattle.stream.specs.Record.{Rec, manual, ofManual, BGNSTR, STRNAME, BOUNDARY, PATH, NODE, BOX, LAYER, DATATYPE, WIDTH, XY, SNAME, COLROW, TEXTTYPE, PRESENTATION, STRING, MAG, ANGLE, PATHTYPE, NODETYPE, BOXTYPE, PROPATTR, PROPVALUE, BGNEXTN, ENDEXTN}
+use Rattle.stream.specs.Record.{Rec, manual, ofManual, BGNSTR, STRNAME, BOUNDARY, PATH, NODE, BOX, LAYER, DATATYPE, WIDTH, XY, SNAME, COLROW, TEXTTYPE, PRESENTATION, STRING, MAG, ANGLE, PATHTYPE, NODETYPE, BOXTYPE, PROPATTR, PROPVALUE, ELFLAGS, PLEX, BGNEXTN, ENDEXTN}
 use Rattle.stream.specs.Read.{Fault, unless, item, optional, each, long, pointOf, pointsOf, stampsOf}
 use Rattle.stream.proofs.RecordLaws.{Good}
 use Rattle.stream.proofs.Fit.{Even, Real, Word, Long, FitPoint}
-use Rattle.cell.specs.Limits.{within, minPolygonPoints, minPathPoints, minNodePoints, maxPoints, maxNodePoints, maxLayer, maxDataType, maxStringLength, maxValueLength, maxColRow}
+use Rattle.cell.specs.Limits.{within, minPolygonPoints, minPathPoints, minNodePoints, maxPoints, maxNodePoints, maxLayer, maxDataType, maxStringLength, maxValueLength, maxColRow, maxFlags}
 use Rattle.cell.specs.Write.{writeMagnification, writeAngle, closed}
 use Rattle.reading.specs.Box.{isBox}
 use Rattle.reading.specs.Limits.{realLimit, pointsLimit, isPresentation, maxProperties, recordLimit, refusalIn, sheetLimits}
@@ -116,6 +116,14 @@ module _ (kind i : ℕ) (b : List ℕ) where
   -- the codes of 2-byte numbers, and of a limit on them
   limited-of : (m : ℕ) (r : Refusal) → length b ≡ 2 → Bytes b → refusalIn (need (leb (number b) m) r) ≡ none → Limited m (number b)
   limited-of m r e h a = record { word = word-of b e h; most = leb→le (number b) m (need-passed _ r a) }
+
+  pub flags-of : Item kind i ELFLAGS b → Limited maxFlags (number b)
+  unfolding ofManual manual recordLimit
+  flags-of x = limited-of maxFlags R.Flags (size-is 2 1 (x .dataType) b (x .good .manual)) (x .good .bytes) (x .admitted)
+
+  pub plex-of : Item kind i PLEX b → Long (long b)
+  unfolding ofManual manual
+  plex-of x = long-of b (size-is 4 3 (x .dataType) b (x .good .manual)) (x .good .bytes)
 
   pub layer-of : Item kind i LAYER b → Limited maxLayer (number b)
   unfolding ofManual manual recordLimit

@@ -18,7 +18,7 @@ use Rattle.stream.specs.Strings.{unpadded}
 use Rattle.stream.specs.Structure.{Property, Strans, Shape, Path, Text, Sref, Aref, SaidBody, Said, Structure}
 use Rattle.stream.specs.Structure as D
 use Rattle.stream.proofs.Fit.{Even, Real, Word, Long, FitPoint}
-use Rattle.cell.specs.Limits.{within, minPathPoints, maxPoints, maxLayer, maxDataType, maxStringLength, maxValueLength, maxColRow}
+use Rattle.cell.specs.Limits.{within, minPathPoints, maxPoints, maxLayer, maxDataType, maxStringLength, maxValueLength, maxColRow, maxFlags}
 use Rattle.cell.specs.Names.{isName}
 use Rattle.cell.specs.Stamps.{stampsFit}
 use Rattle.cell.specs.Write.{writeMagnification, writeAngle}
@@ -108,6 +108,8 @@ pub record KeptProperty (q : Property) : Type 0 where
   pub value : Short maxValueLength (q .value)
 
 pub record KeptElement (e : Said) : Type 0 where
+  pub flags : Opt (Limited maxFlags) (e .flags)
+  pub plex : Opt Long (e .plex)
   pub body : KeptBody (e .body)
   pub properties : All KeptProperty (e .properties)
   pub count : length (e .properties) ≤ maxProperties

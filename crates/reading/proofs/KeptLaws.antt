@@ -20,7 +20,7 @@ use Rattle.conversion.specs.Made.{Made, Done}
 use Rattle.conversion.specs.Convert.{inRange}
 use Rattle.conversion.proofs.WholeLaws.{InRange}
 use Rattle.sheet.specs.Blocks.{maxPairs}
-use Rattle.stream.specs.Record.{Rec, BGNSTR, STRNAME, ENDSTR, BOUNDARY, PATH, SREF, AREF, TEXT, NODE, BOX, LAYER, DATATYPE, NODETYPE, BOXTYPE, TEXTTYPE, PRESENTATION, XY, STRING, SNAME, COLROW, STRANS, MAG, ANGLE, PATHTYPE, WIDTH, BGNEXTN, ENDEXTN, PROPATTR, PROPVALUE, ENDEL, runOf}
+use Rattle.stream.specs.Record.{Rec, BGNSTR, STRNAME, ENDSTR, BOUNDARY, PATH, SREF, AREF, TEXT, NODE, BOX, LAYER, DATATYPE, NODETYPE, BOXTYPE, TEXTTYPE, PRESENTATION, XY, STRING, SNAME, COLROW, STRANS, MAG, ANGLE, PATHTYPE, WIDTH, BGNEXTN, ENDEXTN, PROPATTR, PROPVALUE, ELFLAGS, PLEX, ENDEL, runOf}
 use Rattle.stream.specs.Records.{endpointOf}
 use Rattle.stream.specs.Structure.{Property, SaidBody, Said, Structure}
 use Rattle.stream.specs.Structure as D
@@ -32,7 +32,7 @@ use Rattle.cell.specs.Limits.{maxDataType}
 use Rattle.reading.specs.Limits.{maxProperties, recordLimit, stepLimit, refusalIn, sheetLimits}
 use Rattle.reading.proofs.Kept.{Limited, Several, KeptStrans, KeptShape, KeptPath, KeptText, KeptSref, KeptAref, KeptBody, KeptProperty, KeptElement, KeptStructure}
 use Rattle.reading.proofs.Kept as K
-use Rattle.reading.proofs.ItemLaws.{Item, Goods, item-gives, optional-gives, need-passed, layer-of, datatype-of, nodetype-of, boxtype-of, texttype-of, pathtype-of, presentation-of, width-of, begin-of, end-of, attribute-of, mag-of, angle-of, sname-of, strname-of, string-of, value-of, xy-of, xy-limit, path-limit, colrow-of, stamps-of}
+use Rattle.reading.proofs.ItemLaws.{Item, Goods, item-gives, optional-gives, need-passed, flags-of, plex-of, layer-of, datatype-of, nodetype-of, boxtype-of, texttype-of, pathtype-of, presentation-of, width-of, begin-of, end-of, attribute-of, mag-of, angle-of, sname-of, strname-of, string-of, value-of, xy-of, xy-limit, path-limit, colrow-of, stamps-of}
 
 -- ---- readers fed good records
 
@@ -48,7 +48,7 @@ opt-of : {A B : Type 0} {P : A → Type 0} {Q : B → Type 0} (f : A → B) → 
 opt-of f g none absent = absent
 opt-of f g (some a) (A.present h) = A.present (g a h)
 
-opt-same : {A : Type 0} {P Q : A → Type 0} → ((a : A) → P a → Q a) → (o : Option A) → Opt P o → Opt Q o
+pub opt-same : {A : Type 0} {P Q : A → Type 0} → ((a : A) → P a → Q a) → (o : Option A) → Opt P o → Opt Q o
 opt-same g none absent = absent
 opt-same g (some a) (A.present h) = A.present (g a h)
 
@@ -240,7 +240,14 @@ properties-gives kind = record {
 element-gives : (kind : ℕ) → Gives Goods (elementAfter sheetLimits kind) KeptElement
 unfolding elementAfter
 element-gives kind =
-    bind (body-gives kind) (λ b hb. bind (properties-gives kind) (λ qs hq. gives-pure Goods _ (record { body = hb; properties = hq .all; count = omega (arith, hq .count) })))
+    bind (optional-gives kind 0 ELFLAGS) (λ f hf. bind (optional-gives kind 0 PLEX) (λ p hp. bind (body-gives kind) (λ b hb. bind (properties-gives kind)
+    (λ qs hq. gives-pure Goods _ (record {
+      flags = opt-of number (flags-of kind 0) f hf;
+      plex = opt-of long (plex-of kind 0) p hp;
+      body = hb;
+      properties = hq .all;
+      count = omega (arith, hq .count);
+    })))))
 
 -- ---- elements and the structure
 

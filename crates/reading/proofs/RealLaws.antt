@@ -191,6 +191,11 @@ unfolding opt
 opt-all f none rs h k = k
 opt-all f (some a) rs h k = more (h a refl) k
 
+-- what is kept of an option is kept of what it holds
+pub opt-at : {A : Type 0} {P : A → Type 0} {x : Option A} {a : A} → Opt P x → x ≡ some a → P a
+opt-at {a = a} absent e = absurd (Option·none-ne-some a e)
+opt-at {P = P} (present h) e = subst P (Option·some-injective _ _ e) h
+
 -- the sheet's limits admit a record
 abbrev pub Passes : ℕ → ℕ → Rec → Type 0
 Passes kind i r = refusalIn (recordLimit kind i r) ≡ none

@@ -1,4 +1,4 @@
--- The cell that is read from a structure (document 02, request 8). Assumes nothing.
+-- The cell that is read from a structure (document 02, request 8; flags and plex numbers: its request 5). Assumes nothing.
 use mathlib.Core.Bool.{Bool, false, _&&_, cond}
 use mathlib.Core.Option.{Option, none, some}
 use mathlib.Core.List.{List, [], _∷_}
@@ -134,8 +134,9 @@ abbrev pub propertiesRead : List D.Property → List S.Property
 propertiesRead [] = []
 propertiesRead (q ∷ qs) = record { attribute = q .attribute; value = unpadded (q .value) } ∷ propertiesRead qs
 
+-- flags and plex number as they are, "absent alike, else equal" (document 02, request 5)
 abbrev pub elementRead : D.Said → S.Element
-elementRead e = record { body = bodyRead (e .body); properties = propertiesRead (e .properties) }
+elementRead e = record { flags = e .flags; plex = e .plex; body = bodyRead (e .body); properties = propertiesRead (e .properties) }
 
 abbrev pub elementsRead : List D.Said → List S.Element
 elementsRead [] = []

@@ -127,7 +127,7 @@ unfolding streamBytes
 length-first r rs = length-append (recordBytes r) (streamBytes rs) ∙ ap (λ (n : ℕ). n + length (streamBytes rs)) (length-record r)
 
 -- the first may be missing
-opt-is : {A : Type 0} (f : A → Rec) (x : Option A) (rs : List Rec) → optBytes f x ++ streamBytes rs ≡ streamBytes (opt f x rs)
+pub opt-is : {A : Type 0} (f : A → Rec) (x : Option A) (rs : List Rec) → optBytes f x ++ streamBytes rs ≡ streamBytes (opt f x rs)
 unfolding streamBytes optBytes opt
 opt-is f none rs = refl
 opt-is f (some a) rs = refl

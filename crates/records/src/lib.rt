@@ -80,6 +80,8 @@ pub const ANGLE: u8 = 0x1c;
 
 pub const PATHTYPE: u8 = 0x21;
 
+pub const ELFLAGS: u8 = 0x26;
+
 pub const NODETYPE: u8 = 0x2a;
 
 pub const PROPATTR: u8 = 0x2b;
@@ -89,6 +91,8 @@ pub const PROPVALUE: u8 = 0x2c;
 pub const BOX: u8 = 0x2d;
 
 pub const BOXTYPE: u8 = 0x2e;
+
+pub const PLEX: u8 = 0x2f;
 
 pub const BGNEXTN: u8 = 0x30;
 
@@ -203,15 +207,30 @@ pub fn put_stamps_at(out: &mut [u8], at: usize, code: u8, stamps: &[u8]) -> usiz
     put_bytes_at(out, a, stamps)
 }
 
+// A record of two bytes, where it is there: a number, or bits.
+pub fn put_opt_two_at(
+    out: &mut [u8],
+    at: usize,
+    code: u8,
+    data_type: u8,
+    there: bool,
+    v: u16,
+) -> usize
+    requires { ⌜ at + cond there wordRecordLength 0 ≤ length (now out) ⌝ }
+    ensures { λ r. ⌜ Placed (optBytes (sized code «data_type» 2) (optionOf there v)) (cond there wordRecordLength 0) (now (out .entry)) (now (out .exit)) at r ⌝ }
+{
+    if there {
+        return put_word_at(out, at, code, data_type, v);
+    }
+    at
+}
+
 // A record of one 2-byte number, where it is there.
 pub fn put_opt_word_at(out: &mut [u8], at: usize, code: u8, there: bool, v: u16) -> usize
     requires { ⌜ at + cond there wordRecordLength 0 ≤ length (now out) ⌝ }
     ensures { λ r. ⌜ Placed (optBytes (wordRecord code) (optionOf there v)) (cond there wordRecordLength 0) (now (out .entry)) (now (out .exit)) at r ⌝ }
 {
-    if there {
-        return put_word_at(out, at, code, TWO_BYTE, v);
-    }
-    at
+    put_opt_two_at(out, at, code, TWO_BYTE, there, v)
 }
 
 // A record of one signed 4-byte number, where it is there.

@@ -35,6 +35,7 @@ number-above R.ReportShort = omega arith
 number-above R.LibraryForm = omega arith
 number-above R.LibraryUnits = omega arith
 number-above R.LibraryName = omega arith
+number-above R.Flags = omega arith
 number-above R.NotStructure = omega arith
 number-above R.InexactReal = omega arith
 number-above R.ArrayCorners = omega arith
@@ -50,7 +51,7 @@ byNumber =
     ∷ R.Stamp ∷ R.Name ∷ R.PointCount ∷ R.LayerOrType ∷ R.StringLength ∷ R.ColumnsOrRows
     ∷ R.Spacing ∷ R.Magnification ∷ R.Real ∷ R.SineOrCosine ∷ R.SourceUnit ∷ R.NotFinite
     ∷ R.OffGrid ∷ R.OutOfRange ∷ R.NotClosed ∷ R.OutputShort ∷ R.ReportShort ∷ R.LibraryForm
-    ∷ R.LibraryUnits ∷ R.LibraryName ∷ R.Policy ∷ R.Policy ∷ R.NotStructure ∷ R.InexactReal
+    ∷ R.LibraryUnits ∷ R.LibraryName ∷ R.Flags ∷ R.Policy ∷ R.NotStructure ∷ R.InexactReal
     ∷ R.ArrayCorners ∷ R.Policy ∷ R.Bounds ∷ R.SurveyCount ∷ []
 
 numbered : (r : Refusal) → getD byNumber (number r) R.Policy ≡ r
@@ -80,6 +81,7 @@ numbered R.ReportShort = refl
 numbered R.LibraryForm = refl
 numbered R.LibraryUnits = refl
 numbered R.LibraryName = refl
+numbered R.Flags = refl
 numbered R.NotStructure = refl
 numbered R.InexactReal = refl
 numbered R.ArrayCorners = refl

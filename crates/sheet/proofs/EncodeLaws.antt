@@ -3,10 +3,10 @@ use mathlib.Core.Path.{_≡_, refl, sym, ap, ap₂, _∙_}
 use mathlib.Core.Bool.{Bool, true, false, cond}
 use mathlib.Core.Option.{Option, none, some}
 use mathlib.Core.List.{List, [], _∷_, _++_, append-assoc, append-nil}
-use Prim.Native.Nat.{ℕ, zero, suc, _+_, _-_, _^_, _≤_, _<_}
+use Prim.Native.Nat.{ℕ, zero, suc, _+_, _-_, _/_, _%_, _^_, _≤_, _<_}
 use native.Mathlib.Omega.{arith}
 use borrow.Author.Tests.{le-leb, lt-ltb}
-use lib.Dec.{eqb}
+use lib.Dec.{ltb, eqb}
 use lib.ListN.{length}
 use lib.IntN.{ℤ}
 use lib.Ieee.{Float, binary64, toBits}
@@ -16,18 +16,18 @@ use mir.ValLaws.{toZ-ofZ, ofZ-fits}
 use mir.Syntax.{w32}
 use Rattle.big_endian.specs.Big.{bytesOf, joined}
 use Rattle.big_endian.proofs.BigLaws.{length-bytesOf, number-back}
-use Rattle.parsing.specs.Parse.{part, illFormed, items, times, ended, _>>=_}
+use Rattle.parsing.specs.Parse.{part, illFormed, when, items, times, ended, _>>=_}
 use Rattle.parsing.specs.All.{All, done, more, Opt, absent, present}
 use Rattle.parsing.proofs.ParseLaws.{then, items-append}
 use Rattle.units.specs.declared.Unit.{Unit}
 use Rattle.units.specs.declared.Unit.the-variants as U
 use Rattle.units.specs.Point.{Point}
-use Rattle.sheet.specs.Form.{Form, bytes, num, code, flag, double, string, counted, integerKind, doubleKind, integerLimit, coordinateOf, coordinate, point, spacingOf, spacing}
-use Rattle.sheet.specs.Element.{Property, Head, Shape, Path, Text, Reference, Box, Body, Element, kindOf, maxPathType, property, headForm, shapeForm, pathTypeForm, pathForm, textForm, referenceForm, boxForm, bodyForm, elementForm, headOf, elementOf}
+use Rattle.sheet.specs.Form.{Form, bytes, num, code, flag, double, string, counted, optional, long, integerKind, doubleKind, integerLimit, coordinateOf, coordinate, point, spacingOf, spacing}
+use Rattle.sheet.specs.Element.{Property, Head, Shape, Path, Text, Reference, Box, Body, Element, kindOf, flagsRaise, plexRaise, kindLimit, raised, plainKind, maxPathType, property, headForm, shapeForm, pathTypeForm, pathForm, textForm, referenceForm, boxForm, bodyForm, elementForm, headOf, elementOf}
 use Rattle.sheet.specs.Element as S
 use Rattle.sheet.specs.Blocks.{maxPairs, pairCount, pairsFit, blockOf, blocksFrom}
 use Rattle.sheet.specs.Cell.{Cell, consTo, elementsOf, cellFrom, elementBlocks, cellOf}
-use Rattle.sheet.specs.Encode.{countedBytes, stringBytes, doubleBytes, flagBytes, unitBytes, coordinateBytes, pointBytes, spacingBytes, propertyBytes, headBlock, shapeBytes, pathTypeByte, pathBytes, textBytes, referenceBytes, boxBytes, bodyBytes, elementBlock, blocksOf, cellSheet}
+use Rattle.sheet.specs.Encode.{countedBytes, stringBytes, doubleBytes, flagBytes, unitBytes, coordinateBytes, pointBytes, spacingBytes, propertyBytes, headBlock, shapeBytes, pathTypeByte, pathBytes, textBytes, referenceBytes, boxBytes, bodyBytes, addition, kindByte, optionBytes, plexBytes, elementBlock, blocksOf, cellSheet}
 use Rattle.sheet.proofs.Fine.{Word, Double, FineString, Counted, FineUnit, integer, float, FinePoint, FineProperty, FineHead, FineShape, FinePath, FineText, FineReference, FineBox, FineBody, FineElement}
 use Rattle.sheet.proofs.Fine as F
 use Rattle.sheet.proofs.BlocksLaws.{Some, FitBlocks, count-is, pairs-fit, blocks-back}
@@ -200,6 +200,57 @@ body-back (S.node e) rest (F.node h) = then _ (shape-back e rest h) refl
 body-back (S.reference e) rest (F.reference h) = then _ (reference-back e rest h) refl
 body-back (S.box e) rest (F.box h) = then _ (box-back e rest h) refl
 
+-- ---- options
+
+abbrev isThere : {A : Type 0} → Option A → Bool
+isThere none = false
+isThere (some a) = true
+
+long-back : (z : ℤ) (rest : List ℕ) → SFits w32 z → long (plexBytes z ++ rest) ≡ part z rest
+unfolding long
+long-back z rest h = then _ (num-back 4 (ofZ w32 z) rest (wide z h)) (ap (λ (w : ℤ). part w rest) (toZ-ofZ w32 z h))
+
+option-back : {A : Type 0} (f : A → List ℕ) (p : Form A) (Q : A → Type 0) → ((a : A) (rest : List ℕ) → Q a → p (f a ++ rest) ≡ part a rest)
+    → (t : Bool) (o : Option A) → t ≡ isThere o → (rest : List ℕ) → Opt Q o → optional t p (optionBytes f o ++ rest) ≡ part o rest
+unfolding optional
+option-back f p Q back t none e rest h = rw e
+option-back f p Q back t (some a) e rest (present h) = rw e (then _ (back a rest h) refl)
+
+-- what is read from a kind's byte that is raised
+record KindBack {A B : Type 0} (k : ℕ) (f : Option A) (p : Option B) : Type 0 where
+  flags : raised flagsRaise (k + addition flagsRaise f + addition plexRaise p) ≡ isThere f
+  plex : raised plexRaise (k + addition flagsRaise f + addition plexRaise p) ≡ isThere p
+  plain : plainKind (k + addition flagsRaise f + addition plexRaise p) ≡ k
+  low : k + addition flagsRaise f + addition plexRaise p < kindLimit
+
+raised-not : (n k : ℕ) → k / n % 2 ≡ 0 → raised n k ≡ false
+raised-not n k e = rw e
+
+raised-is : (n k : ℕ) → k / n % 2 ≡ 1 → raised n k ≡ true
+raised-is n k e = rw e
+
+kind-back : {A B : Type 0} (k : ℕ) → k < flagsRaise → (f : Option A) (p : Option B) → KindBack k f p
+kind-back k h none none = record { flags = raised-not flagsRaise (k + 0 + 0) (omega arith); plex = raised-not plexRaise (k + 0 + 0) (omega arith); plain = omega arith; low = omega arith }
+kind-back k h none (some p) = record { flags = raised-not flagsRaise (k + 0 + plexRaise) (omega arith); plex = raised-is plexRaise (k + 0 + plexRaise) (omega arith); plain = omega arith; low = omega arith }
+kind-back k h (some f) none = record { flags = raised-is flagsRaise (k + flagsRaise + 0) (omega arith); plex = raised-not plexRaise (k + flagsRaise + 0) (omega arith); plain = omega arith; low = omega arith }
+kind-back k h (some f) (some p) =
+    let n = k + flagsRaise + plexRaise in
+    record { flags = raised-is flagsRaise n (omega arith); plex = raised-is plexRaise n (omega arith); plain = omega arith; low = omega arith }
+
+kind-low : (b : Body) → kindOf b < flagsRaise
+kind-low (S.polygon e) = omega arith
+kind-low (S.path e) = omega arith
+kind-low (S.text e) = omega arith
+kind-low (S.node e) = omega arith
+kind-low (S.reference e) = omega arith
+kind-low (S.box e) = omega arith
+
+raised-back : (e : Element) (rest : List ℕ) → KindBack (kindOf (e .body)) (e .flags) (e .plex) → FineBody (e .body)
+    → when illFormed (ltb (kindByte e) kindLimit) (bodyForm (plainKind (kindByte e))) (bodyBytes (e .body) ++ rest) ≡ part (e .body) rest
+raised-back e rest k h =
+    ap₂ (λ (t : Bool) (n : ℕ). when illFormed t (bodyForm n) (bodyBytes (e .body) ++ rest)) (lt-ltb (kindByte e) kindLimit (k .low)) (k .plain)
+    ∙ body-back (e .body) rest h
+
 -- ---- whole blocks
 
 pub head-held : (h : Head) → FineHead h → headOf (headBlock h) ≡ some h
@@ -209,9 +260,13 @@ head-held h f = ap ended (ap headForm (sym (append-nil (headBlock h))) ∙ head-
 pub element-held : (e : Element) → FineElement e → elementOf (elementBlock e) ≡ some e
 unfolding elementOf elementForm elementBlock
 element-held e h =
+    let k = kind-back (kindOf (e .body)) (kind-low (e .body)) (e .flags) (e .plex) in
     ap ended
-    (then _ (byte-back (kindOf (e .body)) _) (then _ (body-back (e .body) _ (h .body))
-    (then _ (ap (counted property) (sym (append-nil (countedBytes propertyBytes (e .properties)))) ∙ counted-back propertyBytes property FineProperty property-back (e .properties) [] (h .properties)) refl)))
+    (then _ (byte-back (kindByte e) _)
+    (then _ (option-back (bytesOf 2) (num 2) Word word-back _ (e .flags) (k .flags) _ (h .flags))
+    (then _ (option-back plexBytes long (SFits w32) long-back _ (e .plex) (k .plex) _ (h .plex))
+    (then _ (raised-back e _ k (h .body))
+    (then _ (ap (counted property) (sym (append-nil (countedBytes propertyBytes (e .properties)))) ∙ counted-back propertyBytes property FineProperty property-back (e .properties) [] (h .properties)) refl)))))
 
 elements-held : (es : List Element) → All FineElement es → elementsOf (blocksOf es) ≡ some es
 unfolding elementsOf

@@ -108,5 +108,7 @@ pub data FineBody : Body → Type 0 where
   box : {e : Box} → FineBox e → FineBody (S.box e)
 
 pub record FineElement (e : Element) : Type 0 where
+  pub flags : Opt Word (e .flags)
+  pub plex : Opt (SFits w32) (e .plex)
   pub body : FineBody (e .body)
   pub properties : Counted FineProperty (e .properties)

@@ -10,7 +10,7 @@ use lib.ListN.{length, take, drop}
 use lib.Seq.{length-take-le}
 use lib.Ieee.{Float, fits, binary64, ofBits}
 use lib.Ieee.Bits.{ofBits-fits}
-use mir.Val.{toZ, Fits}
+use mir.Val.{toZ, Fits, SFits}
 use mir.ValLaws.{toZ-fits}
 use mir.Syntax.{w32}
 use Rattle.big_endian.specs.Big.{Bytes, number}
@@ -21,8 +21,8 @@ use Rattle.parsing.specs.All.{Opt, absent, present}
 use Rattle.parsing.proofs.ParseLaws.{items-is, no-part, Gives, gives-pure, gives-fail, gives-when, gives-bind, gives-map, gives-times, gives-weaker, gives-whole, gives-cond, gives-present}
 use Rattle.units.specs.declared.Unit.{Unit}
 use Rattle.units.specs.declared.Unit.the-variants as U
-use Rattle.sheet.specs.Form.{Form, integerKind, doubleKind, absentKind, integerLimit, bytes, num, code, flag, double, string, counted, coordinateOf, coordinate, point, spacingOf, spacing}
-use Rattle.sheet.specs.Element.{Head, Element, polygonKind, pathKind, textKind, nodeKind, referenceKind, boxKind, maxPathType, property, headForm, shapeForm, pathTypeForm, pathForm, textForm, referenceForm, boxForm, bodyForm, elementForm, headOf, elementOf}
+use Rattle.sheet.specs.Form.{Form, integerKind, doubleKind, absentKind, integerLimit, bytes, num, code, flag, double, string, counted, optional, long, coordinateOf, coordinate, point, spacingOf, spacing}
+use Rattle.sheet.specs.Element.{Head, Element, polygonKind, pathKind, textKind, nodeKind, referenceKind, boxKind, flagsRaise, plexRaise, kindLimit, raised, plainKind, maxPathType, property, headForm, shapeForm, pathTypeForm, pathForm, textForm, referenceForm, boxForm, bodyForm, elementForm, headOf, elementOf}
 use Rattle.sheet.specs.Element as S
 use Rattle.sheet.specs.Library.{LibraryHead, libraryHeadForm, libraryHeadOf}
 use Rattle.sheet.proofs.Fine.{Word, Double, FineString, Counted, FineUnit, integer, float, FinePoint, FineProperty, FineHead, FineLibraryHead, FineShape, FinePath, FineText, FineReference, FineBox, FineBody, FineElement}
@@ -234,13 +234,28 @@ body-gives k =
     (either (eqb k boxKind) (gives-map Bytes S.box boxForm box-gives (λ e h. F.box h))
     (gives-fail Bytes illFormed))))))
 
+-- ---- options
+
+optional-gives : {A : Type 0} {Q : A → Type 0} {p : Form A} (t : Bool) → Gives Bytes p Q → Gives Bytes (optional t p) (Opt Q)
+unfolding optional
+optional-gives {p = p} true g = gives-map Bytes some p g (λ a h. present h)
+optional-gives false g = gives-pure Bytes none absent
+
+long-gives : Gives Bytes long (SFits w32)
+unfolding long
+long-gives = gives-map Bytes (toZ w32) (num 4) (num-gives 4) (λ n h. toZ-fits w32 n (record { fits = h }))
+
+-- ---- elements
+
 element-gives : Gives Bytes elementForm FineElement
 unfolding elementForm
 element-gives =
     bind (num-gives 1)
-    (λ k hk. bind (body-gives k)
+    (λ k hk. bind (optional-gives (raised flagsRaise k) (num-gives 2))
+    (λ f hf. bind (optional-gives (raised plexRaise k) long-gives)
+    (λ p hp. bind (gives-when Bytes illFormed (ltb k kindLimit) (bodyForm (plainKind k)) (λ t. body-gives (plainKind k)))
     (λ b hb. bind (counted-gives property property-gives)
-    (λ qs hq. gives-pure Bytes _ (record { body = hb; properties = hq }))))
+    (λ qs hq. gives-pure Bytes _ (record { flags = hf; plex = hp; body = hb; properties = hq }))))))
 
 pub element-fine : (b : List ℕ) (e : Element) → Bytes b → elementOf b ≡ some e → FineElement e
 unfolding elementOf

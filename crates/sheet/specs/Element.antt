@@ -1,14 +1,15 @@
--- The head and the elements: what a block holds, and its form (document 01, "Input", the list; boxes: document 02, request 3). An element is a body, by its kind, and its properties, which are last in every form. Assumes nothing.
+-- The head and the elements: what a block holds, and its form (document 01, "Input", the list; boxes: document 02, request 3; flags and plex numbers: its request 5). An element is a body, by its kind, with its flags and plex number in front, where it has them, and its properties, which are last in every form. Assumes nothing.
 use mathlib.Core.Bool.{Bool, cond}
 use mathlib.Core.Option.{Option, none, some}
 use mathlib.Core.List.{List}
-use Prim.Native.Nat.{ℕ}
-use lib.Dec.{leb, eqb}
+use Prim.Native.Nat.{ℕ, _/_, _%_}
+use lib.Dec.{leb, ltb, eqb}
+use lib.IntN.{ℤ}
 use lib.Ieee.{Float}
 use Rattle.units.specs.declared.Unit.{Unit}
 use Rattle.units.specs.Point.{Point}
 use Rattle.parsing.specs.Parse.{illFormed, pure, fail, when, map, times, whole, _>>=_}
-use Rattle.sheet.specs.Form.{Form, num, code, flag, double, string, counted, coordinate, point, spacing}
+use Rattle.sheet.specs.Form.{Form, num, code, flag, double, string, counted, optional, long, coordinate, point, spacing}
 
 -- ---- what a block holds
 
@@ -75,7 +76,10 @@ pub data Body : Type 0 where
   reference : Reference → Body
   box : Box → Body
 
+-- "All six element kinds shall carry both as options"
 pub record Element : Type 0 where
+  pub flags : Option ℕ
+  pub plex : Option ℤ
   pub body : Body
   pub properties : List Property
 
@@ -107,6 +111,25 @@ kindOf (text e) = textKind
 kindOf (node e) = nodeKind
 kindOf (reference e) = referenceKind
 kindOf (box e) = boxKind
+
+-- "A kind byte raised by 16 is followed by 2 bytes of flags; raised by 32, by 4 bytes of signed plex number"
+abbrev pub flagsRaise : ℕ
+flagsRaise = 16
+
+abbrev pub plexRaise : ℕ
+plexRaise = 32
+
+-- every kind, raised by either or by both, is below
+abbrev pub kindLimit : ℕ
+kindLimit = 64
+
+-- whether the kind byte k is raised by n
+abbrev pub raised : ℕ → ℕ → Bool
+raised n k = eqb (k / n % 2) 1
+
+-- "the kind without these additions"
+abbrev pub plainKind : ℕ → ℕ
+plainKind k = k % flagsRaise
 
 -- ---- forms
 
@@ -201,13 +224,15 @@ bodyForm k =
     (cond (eqb k boxKind) (map box boxForm)
     (fail illFormed))))))
 
--- kind byte, body, properties
+-- kind byte, options, body, properties: "with both, flags come first"
 unfoldable pub elementForm : Form Element
 elementForm = do
   k ← num 1
-  b ← bodyForm k
+  f ← optional (raised flagsRaise k) (num 2)
+  p ← optional (raised plexRaise k) long
+  b ← when illFormed (ltb k kindLimit) (bodyForm (plainKind k))
   qs ← counted property
-  pure (record { body = b; properties = qs })
+  pure (record { flags = f; plex = p; body = b; properties = qs })
 
 -- what a block holds, or nothing where it is ill-formed: "short, long, unknown code"
 unfoldable pub headOf : List ℕ → Option Head

@@ -1,9 +1,10 @@
--- The sheet of a cell (document 02, request 8): the bytes that the forms of document 01 ("Input") and of request 3 read as that cell. Assumes nothing.
+-- The sheet of a cell (document 02, request 8): the bytes that the forms of document 01 ("Input") and of requests 3 and 5 read as that cell. Assumes nothing.
 use mathlib.Core.Bool.{Bool, cond}
 use mathlib.Core.Option.{Option, none, some}
 use mathlib.Core.List.{List, [], _∷_, _++_}
 use Prim.Native.Nat.{ℕ, _+_, _*_}
 use lib.ListN.{length}
+use lib.IntN.{ℤ}
 use lib.Ieee.{Float, binary64, toBits}
 use mir.Val.{ofZ}
 use mir.Syntax.{w32}
@@ -12,7 +13,7 @@ use Rattle.units.specs.declared.Unit.{Unit}
 use Rattle.units.specs.declared.Unit.the-variants as U
 use Rattle.units.specs.Point.{Point}
 use Rattle.sheet.specs.Form.{integerKind, doubleKind, absentKind}
-use Rattle.sheet.specs.Element.{Property, Head, Shape, Path, Text, Reference, Box, Body, polygon, path, text, node, reference, box, Element, kindOf}
+use Rattle.sheet.specs.Element.{Property, Head, Shape, Path, Text, Reference, Box, Body, polygon, path, text, node, reference, box, Element, kindOf, flagsRaise, plexRaise}
 use Rattle.sheet.specs.Cell.{Cell}
 
 -- ---- parts
@@ -101,9 +102,28 @@ bodyBytes (node e) = shapeBytes e
 bodyBytes (reference e) = referenceBytes e
 bodyBytes (box e) = boxBytes e
 
--- kind byte, body, properties
+-- what the kind byte is raised by for an option
+abbrev pub addition : {A : Type 0} → ℕ → Option A → ℕ
+addition n none = 0
+addition n (some a) = n
+
+-- "A kind byte raised by 16 is followed by 2 bytes of flags; raised by 32, by 4 bytes of signed plex number"
+abbrev pub kindByte : Element → ℕ
+kindByte e = kindOf (e .body) + addition flagsRaise (e .flags) + addition plexRaise (e .plex)
+
+-- an option that is absent has no bytes
+abbrev pub optionBytes : {A : Type 0} → (A → List ℕ) → Option A → List ℕ
+optionBytes f none = []
+optionBytes f (some a) = f a
+
+abbrev pub plexBytes : ℤ → List ℕ
+plexBytes p = bytesOf 4 (ofZ w32 p)
+
+-- kind byte, options, body, properties: "with both, flags come first"
 unfoldable pub elementBlock : Element → List ℕ
-elementBlock e = kindOf (e .body) ∷ (bodyBytes (e .body) ++ countedBytes propertyBytes (e .properties))
+elementBlock e =
+    kindByte e ∷ (optionBytes (bytesOf 2) (e .flags) ++ (optionBytes plexBytes (e .plex)
+    ++ (bodyBytes (e .body) ++ countedBytes propertyBytes (e .properties))))
 
 abbrev pub blocksOf : List Element → List (List ℕ)
 blocksOf [] = []

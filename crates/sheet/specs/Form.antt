@@ -1,9 +1,10 @@
 -- The parts of a block, read from its front (document 01, "Input", second paragraph). A part that is short or has an unknown code is ill-formed. Assumes nothing.
-use mathlib.Core.Bool.{Bool, _&&_, cond}
+use mathlib.Core.Bool.{Bool, true, false, _&&_, cond}
 use mathlib.Core.Option.{Option, none, some}
 use mathlib.Core.List.{List}
 use Prim.Native.Nat.{ℕ, _^_}
 use lib.Dec.{leb, ltb, eqb}
+use lib.IntN.{ℤ}
 use lib.Ieee.{Float, binary64, ofBits}
 use mir.Val.{toZ}
 use mir.Syntax.{w32}
@@ -43,6 +44,15 @@ string = num 2 >>= bytes
 -- a 2-byte count and as many parts
 unfoldable pub counted : {A : Type 0} → Form A → Form (List A)
 counted p = num 2 >>= λ n. times n p
+
+-- a part that is there where a test holds
+unfoldable pub optional : {A : Type 0} → Bool → Form A → Form (Option A)
+optional true p = map some p
+optional false p = pure none
+
+-- a signed number of 4 bytes
+unfoldable pub long : Form ℤ
+long = map (toZ w32) (num 4)
 
 -- ---- coordinates
 

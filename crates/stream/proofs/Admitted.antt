@@ -11,7 +11,7 @@ use Rattle.units.specs.Point.{Point}
 use Rattle.stream.specs.Record.{Rec, STRNAME, PROPATTR, PROPVALUE, ENDEL}
 use Rattle.stream.specs.Structure.{Property, SaidBody, Said, Structure}
 use Rattle.stream.specs.Structure as S
-use Rattle.stream.specs.Records.{emptyRecord, wordRecord, stringRecord, stampsRecord, bodyRecords}
+use Rattle.stream.specs.Records.{emptyRecord, wordRecord, stringRecord, stampsRecord, bodyRecords, optionRecords}
 use Rattle.stream.specs.Read.{Limits, unlimited}
 use Rattle.stream.proofs.AppendLaws.{codeOf}
 use Rattle.stream.proofs.Fit.{All, done, more}
@@ -46,6 +46,7 @@ pub data AdmittedTail (limits : Limits) (kind : ℕ) : ℕ → List Property →
 -- the element of index i
 pub record AdmittedElement (limits : Limits) (i : ℕ) (w : Said) : Type 0 where
   pub first : Admitted limits (codeOf (w .body)) i (emptyRecord (codeOf (w .body)))
+  pub options : All (Admitted limits (codeOf (w .body)) 0) (optionRecords (w .flags) (w .plex) [])
   pub body : All (Admitted limits (codeOf (w .body)) 0) (bodyRest (w .body))
   pub steps : AdmittedSteps limits (w .body)
   pub tail : AdmittedTail limits (codeOf (w .body)) 0 (w .properties)
@@ -82,6 +83,7 @@ tail-free kind i (q ∷ qs) = next refl refl (tail-free kind (suc i) qs)
 element-free : (i : ℕ) (w : Said) → AdmittedElement unlimited i w
 element-free i w = record {
   first = refl;
+  options = all-free (codeOf (w .body)) (optionRecords (w .flags) (w .plex) []);
   body = all-free (codeOf (w .body)) (bodyRest (w .body));
   steps = steps-free (w .body);
   tail = tail-free (codeOf (w .body)) 0 (w .properties);

@@ -14,7 +14,7 @@ use Rattle.units.specs.Point.{Point}
 use Rattle.refusal.specs.declared.Refusal.{Refusal}
 use Rattle.refusal.specs.declared.Refusal.the-variants as R
 use Rattle.parsing.specs.Parse.{Part, ill, part, Parse, pure, fail, follow, when, map, present, _>>=_}
-use Rattle.stream.specs.Record.{Rec, BGNSTR, STRNAME, ENDSTR, BOUNDARY, PATH, SREF, AREF, TEXT, LAYER, DATATYPE, WIDTH, XY, ENDEL, SNAME, COLROW, NODE, TEXTTYPE, PRESENTATION, STRING, STRANS, MAG, ANGLE, PATHTYPE, NODETYPE, PROPATTR, PROPVALUE, BOX, BOXTYPE, BGNEXTN, ENDEXTN}
+use Rattle.stream.specs.Record.{Rec, BGNSTR, STRNAME, ENDSTR, BOUNDARY, PATH, SREF, AREF, TEXT, LAYER, DATATYPE, WIDTH, XY, ENDEL, SNAME, COLROW, NODE, TEXTTYPE, PRESENTATION, STRING, STRANS, MAG, ANGLE, PATHTYPE, NODETYPE, PROPATTR, PROPVALUE, BOX, BOXTYPE, ELFLAGS, PLEX, BGNEXTN, ENDEXTN}
 use Rattle.stream.specs.Structure.{Property, boundary, path, text, node, sref, aref, box}
 use Rattle.stream.specs.Read.{Fault, noRecord, notOfGrammar, beyond, Stop, tagged, inBlock, Reader, Limits, unless, item, optional, pointsOf, onePoint, threePoints, stepOf, axisStep, pointStep, reflectionFrom, afterStrans, strans, someOf, shapeBody, pathBody, textBody, srefBody, arefBody, bodyAfter, begins, propertyOrEnd, propertiesF, properties, elementAfter, elementFrom, elementsF, elements, structure}
 
@@ -187,7 +187,7 @@ module _ (first second : Limits) (W : Fault → Type 0) (wanted : W noRecord)
 
   by-element : (kind : ℕ) → SideBySide W (elementAfter first kind) (elementAfter second kind)
   unfolding elementAfter
-  by-element kind = by-bind (by-body kind) (λ b. by-bind (by-properties kind) (λ qs. by-pure))
+  by-element kind = by-bind (by-optional kind 0 ELFLAGS) (λ f. by-bind (by-optional kind 0 PLEX) (λ p. by-bind (by-body kind) (λ b. by-bind (by-properties kind) (λ qs. by-pure))))
 
   by-from : (i : ℕ) (r : Rec) → SideBySide (Excused W) (elementFrom first i r) (elementFrom second i r)
   unfolding elementFrom

@@ -98,6 +98,8 @@ pub data FitBody : SaidBody → Type 0 where
   box : {e : Shape} → FitShape e → FitBody (S.box e)
 
 pub record FitElement (e : Said) : Type 0 where
+  pub flags : Opt Word (e .flags)
+  pub plex : Opt Long (e .plex)
   pub body : FitBody (e .body)
   pub properties : All FitProperty (e .properties)
 

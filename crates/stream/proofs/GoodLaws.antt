@@ -18,9 +18,9 @@ use Rattle.units.specs.Point.{Point}
 use Rattle.stream.specs.Record.{Rec, BOUNDARY, NODE, DATATYPE, NODETYPE, BOX, noData, twoByte, eightByteReal, asciiString, listed, manual, ofManual}
 use Rattle.stream.specs.Structure.{Property, Strans, Shape, SaidBody, Said, Structure}
 use Rattle.stream.specs.Structure as S
-use Rattle.stream.specs.Records.{longBytes, realRecord, stringRecord, wordsBytes, pointBytes, xyRecord, colrowRecord, stampsRecord, cornersOf, opt, stransRecords, shapeRecords, pathRecords, textRecords, srefRecords, arefRecords, bodyRecords, tailRecords, elementsRecords, structureRecords}
+use Rattle.stream.specs.Records.{longBytes, realRecord, stringRecord, wordsBytes, pointBytes, xyRecord, colrowRecord, stampsRecord, cornersOf, opt, stransRecords, shapeRecords, pathRecords, textRecords, srefRecords, arefRecords, bodyRecords, tailRecords, withOptions, elementsRecords, structureRecords}
 use Rattle.stream.proofs.RecordLaws.{Good}
-use Rattle.stream.proofs.Fit.{All, done, more, Opt, present, Even, Real, FitProperty, FitStrans, FitShape, FitBody, FitElement, FitStructure}
+use Rattle.stream.proofs.Fit.{All, done, more, Opt, present, Word, Long, Even, Real, FitProperty, FitStrans, FitShape, FitBody, FitElement, FitStructure}
 
 -- ---- by the data
 
@@ -127,9 +127,16 @@ good-body (S.aref e) rs (FitBody.aref h) k =
     (good-strans _ _ (h .transform) (more (good-colrow _ _) (more (good-points (cornersOf e) (lit≤ tt)) k))))
 good-body (S.box e) rs (FitBody.box h) k = good-shape BOX _ e rs tt tt h k
 
+good-options : (f : Option ℕ) (p : Option ℤ) (rs : List Rec) → Opt Word f → Opt Long p → All Good rs → All Good (withOptions f p rs)
+unfolding withOptions manual
+good-options f p [] h k done = done
+good-options f p (r ∷ rs) h k (more g gs) =
+    more g (good-opt _ _ _ _ (λ v r. good-number 2 _ _ v tt tt (lit< tt)) h (good-opt _ _ _ _ (λ q r. good-number 4 _ _ (ofZ w32 q) tt tt (lit< tt)) k gs))
+
 good-elements : (ws : List Said) (rs : List Rec) → All FitElement ws → All Good rs → All Good (elementsRecords ws rs)
 good-elements [] rs h k = k
-good-elements (w ∷ ws) rs (more h hs) k = good-body (w .body) _ (h .body) (good-tail (w .properties) _ (h .properties) (good-elements ws rs hs k))
+good-elements (w ∷ ws) rs (more h hs) k =
+    good-options (w .flags) (w .plex) _ (h .flags) (h .plex) (good-body (w .body) _ (h .body) (good-tail (w .properties) _ (h .properties) (good-elements ws rs hs k)))
 
 -- ---- the structure
 

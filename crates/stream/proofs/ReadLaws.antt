@@ -21,12 +21,12 @@ use Rattle.refusal.specs.declared.Refusal.{Refusal}
 use Rattle.parsing.specs.Parse.{part, pure}
 use Rattle.parsing.proofs.ParseLaws.{then}
 use Rattle.units.specs.Point.{Point, endpoint}
-use Rattle.stream.specs.Record.{Rec, ENDSTR, BOUNDARY, PATH, SREF, AREF, TEXT, DATATYPE, NODE, PRESENTATION, STRING, STRANS, MAG, ANGLE, NODETYPE, BOX, BOXTYPE, ENDEL}
+use Rattle.stream.specs.Record.{Rec, LAYER, SNAME, ELFLAGS, PLEX, ENDSTR, BOUNDARY, PATH, SREF, AREF, TEXT, DATATYPE, NODE, PRESENTATION, STRING, STRANS, MAG, ANGLE, NODETYPE, BOX, BOXTYPE, ENDEL}
 use Rattle.stream.specs.Structure.{Property, Strans, Shape, Path, Text, Sref, Aref, SaidBody, Said, Structure}
 use Rattle.stream.specs.Structure as S
-use Rattle.stream.specs.Records.{emptyRecord, bitsRecord, stringRecord, xyRecord, colrowRecord, longBytes, wordsBytes, pointBytes, pointsBytes, opt, stransBits, stransRecords, endpointOf, cornersOf, shapeRecords, pathRecords, textRecords, srefRecords, arefRecords, bodyRecords, tailRecords, elementRecords, elementsRecords, structureRecords}
+use Rattle.stream.specs.Records.{emptyRecord, bitsRecord, longRecord, stringRecord, xyRecord, colrowRecord, longBytes, wordsBytes, pointBytes, pointsBytes, opt, stransBits, stransRecords, endpointOf, cornersOf, shapeRecords, pathRecords, textRecords, srefRecords, arefRecords, bodyRecords, tailRecords, optionRecords, elementsRecords, structureRecords}
 use Rattle.stream.specs.Read.{tagged, Reader, Limits, unless, item, optional, long, mapOption, each, stampsOf, pointOf, pointsOf, onePoint, threePoints, reflectionFrom, afterStrans, strans, someOf, axisStep, pointStep, shapeBody, pathBody, textBody, srefBody, arefBody, bodyAfter, begins, propertyOrEnd, propertiesF, properties, elementAfter, elementFrom, elementsF, elements, structure}
-use Rattle.stream.proofs.AppendLaws.{codeOf, first-is, element-longer}
+use Rattle.stream.proofs.AppendLaws.{codeOf, element-first, element-longer}
 use Rattle.stream.proofs.Fit.{All, done, more, Opt, present, Word, Long, FitPoint, FitProperty, FitShape, FitPath, FitText, FitSref, FitAref, FitBody, FitElement, FitStructure}
 use Rattle.stream.proofs.Admitted.{Admitted, bodyRest, AdmittedPoint, AdmittedSteps, AdmittedTail, end, next, AdmittedElement, AdmittedElements, oneElement, AdmittedStructure}
 use Rattle.stream.proofs.StepLaws.{step-back}
@@ -268,9 +268,31 @@ module _ (limits : Limits) where
   unfolding properties
   properties-back kind qs rest a h = tail-from _ kind 0 qs rest a h (tail-length qs rest)
 
-  element-back : (w : Said) (rest : List Rec) (i : ℕ) → AdmittedElement limits i w → FitElement w → elementAfter limits (codeOf (w .body)) (drop 1 (elementRecords w rest)) ≡ part w rest
+  -- after its first record a body has neither option: LAYER or SNAME stands there
+  no-option : (kind c : ℕ) (w : SaidBody) (rest : List Rec) → eqb LAYER c ≡ false → eqb SNAME c ≡ false → Absent limits kind 0 c (drop 1 (bodyRecords w rest))
+  unfolding shapeRecords pathRecords textRecords srefRecords arefRecords
+  no-option kind c (S.boundary e) rest l s = absent-head limits kind 0 c _ _ l
+  no-option kind c (S.path e) rest l s = absent-head limits kind 0 c _ _ l
+  no-option kind c (S.text e) rest l s = absent-head limits kind 0 c _ _ l
+  no-option kind c (S.node e) rest l s = absent-head limits kind 0 c _ _ l
+  no-option kind c (S.sref e) rest l s = absent-head limits kind 0 c _ _ s
+  no-option kind c (S.aref e) rest l s = absent-head limits kind 0 c _ _ s
+  no-option kind c (S.box e) rest l s = absent-head limits kind 0 c _ _ l
+
+  -- what an element has after its first record
+  abbrev afterFirst : Said → List Rec → List Rec
+  afterFirst w rest = optionRecords (w .flags) (w .plex) (drop 1 (bodyRecords (w .body) (tailRecords (w .properties) rest)))
+
+  element-back : (w : Said) (rest : List Rec) (i : ℕ) → AdmittedElement limits i w → FitElement w → elementAfter limits (codeOf (w .body)) (afterFirst w rest) ≡ part w rest
   unfolding elementAfter
-  element-back w rest i a h = then _ (body-back (w .body) _ (a .body) (a .steps) (h .body)) (then _ (properties-back _ (w .properties) rest (a .tail) (h .properties)) refl)
+  element-back w rest i a h =
+      let kind = codeOf (w .body) in
+      let f = opt-admitted (Admitted limits kind 0) (bitsRecord ELFLAGS) (w .flags) _ (a .options) in
+      let p = opt-admitted (Admitted limits kind 0) (longRecord PLEX) (w .plex) _ (f .others) in
+      then _ (optional-opt limits kind 0 _ _ _ _ (λ v. refl) (f .here) (absent-opt limits kind 0 _ _ _ _ (λ v. refl) (no-option kind ELFLAGS (w .body) _ refl refl)))
+      (then _ (optional-opt limits kind 0 _ _ _ _ (λ v. refl) (p .here) (no-option kind PLEX (w .body) _ refl refl))
+      (then _ (body-back (w .body) _ (a .body) (a .steps) (h .body)) (then _ (properties-back _ (w .properties) rest (a .tail) (h .properties))
+      (rw (option-back (bytesOf 2) number Word (w .flags) word-back (h .flags)) (rw (option-back longBytes long Long (w .plex) long-back (h .plex)))))))
 
   -- ---- elements and the structure
 
@@ -292,7 +314,7 @@ module _ (limits : Limits) where
   does-begin (S.aref e) = refl
   does-begin (S.box e) = refl
 
-  from-back : (w : Said) (rest : List Rec) (i : ℕ) → AdmittedElement limits i w → FitElement w → elementFrom limits i (emptyRecord (codeOf (w .body))) (drop 1 (elementRecords w rest)) ≡ part w rest
+  from-back : (w : Said) (rest : List Rec) (i : ℕ) → AdmittedElement limits i w → FitElement w → elementFrom limits i (emptyRecord (codeOf (w .body))) (afterFirst w rest) ≡ part w rest
   unfolding elementFrom
   from-back w rest i a h = ap (tagged (suc i)) (free (elementAfter limits (codeOf (w .body))) _ (a .first) ∙ element-back w rest i a h)
 
@@ -301,7 +323,7 @@ module _ (limits : Limits) where
   elements-from zero i ws rest a h l = absurd (not-suc-le-zero l)
   elements-from (suc f) i [] rest a h l = refl
   elements-from (suc f) i (w ∷ ws) rest (oneElement a cs) (more h hs) l =
-      rw (first-is (w .body) (tailRecords (w .properties) (elementsRecords ws (emptyRecord ENDSTR ∷ rest))))
+      rw (element-first w (elementsRecords ws (emptyRecord ENDSTR ∷ rest)))
       (rw (not-end (w .body)) (rw (does-begin (w .body))
       (then _ (from-back w _ i a h) (then _ (elements-from f (suc i) ws rest cs hs (le-of-suc-le-suc l)) refl))))
 

@@ -1,4 +1,4 @@
--- What a structure draws: what its records are worth (document 01, "What a structure draws"; document 02, request 3). Stamps are not drawn, and strings have their trailing zero bytes dropped.
+-- What a structure draws: what its records are worth (document 01, "What a structure draws"; document 02, requests 3 and 5). Stamps are not drawn, and strings have their trailing zero bytes dropped.
 -- Two structures draw the same where these are equal. Assumes nothing.
 use mathlib.Core.Bool.{Bool, false, _&&_, cond}
 use mathlib.Core.Option.{Option, none, some}
@@ -91,7 +91,7 @@ bodyDrawn (aref e) = referenceDrawn (arefDrawn e)
 bodyDrawn (box e) = box e
 
 abbrev pub elementDrawn : Said → Worth
-elementDrawn e = record { body = bodyDrawn (e .body); properties = propertiesDrawn (e .properties) }
+elementDrawn e = record { flags = e .flags; plex = e .plex; body = bodyDrawn (e .body); properties = propertiesDrawn (e .properties) }
 
 abbrev pub elementsDrawn : List Said → List Worth
 elementsDrawn [] = []

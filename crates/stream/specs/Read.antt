@@ -1,4 +1,4 @@
--- Reading a structure by the manual's grammar (document 01, "What a structure draws"; document 02, request 3): bytes to records, records to what they say. Assumes nothing.
+-- Reading a structure by the manual's grammar (document 01, "What a structure draws"; document 02, requests 3 and 5): bytes to records, records to what they say. Assumes nothing.
 -- The grammar is said once, for two readers. Reading for what is drawn asks the grammar alone (`unlimited`, `structureOf`). Reading to a sheet asks besides, of each record, what a sheet holds
 -- (document 02, request 8; crate `reading`).
 use mathlib.Core.Bool.{Bool, true, false, _||_, cond}
@@ -15,7 +15,7 @@ use Rattle.refusal.specs.declared.Refusal.{Refusal}
 use Rattle.refusal.specs.declared.Refusal.the-variants as R
 use Rattle.parsing.specs.Parse.{Part, ill, part, Parse, pure, fail, follow, when, map, present, Outcome, refused, given, accepted, _>>=_}
 use Rattle.units.specs.Point.{Point}
-use Rattle.stream.specs.Record.{Rec, BGNSTR, STRNAME, ENDSTR, BOUNDARY, PATH, SREF, AREF, TEXT, LAYER, DATATYPE, WIDTH, XY, ENDEL, SNAME, COLROW, NODE, TEXTTYPE, PRESENTATION, STRING, STRANS, MAG, ANGLE, PATHTYPE, NODETYPE, PROPATTR, PROPVALUE, BOX, BOXTYPE, BGNEXTN, ENDEXTN, runOf}
+use Rattle.stream.specs.Record.{Rec, BGNSTR, STRNAME, ENDSTR, BOUNDARY, PATH, SREF, AREF, TEXT, LAYER, DATATYPE, WIDTH, XY, ENDEL, SNAME, COLROW, NODE, TEXTTYPE, PRESENTATION, STRING, STRANS, MAG, ANGLE, PATHTYPE, NODETYPE, PROPATTR, PROPVALUE, BOX, BOXTYPE, ELFLAGS, PLEX, BGNEXTN, ENDEXTN, runOf}
 use Rattle.stream.specs.Structure.{Property, Strans, Shape, Path, Text, Sref, Aref, boundary, path, text, node, sref, aref, box, SaidBody, Said, Structure}
 
 -- ---- faults
@@ -262,12 +262,14 @@ module _ (limits : Limits) where
   unfoldable pub properties : ℕ → Reader (List Property)
   properties kind rs = propertiesF (length rs) kind 0 rs
 
-  -- its kind's records, then its properties
+  -- ELFLAGS and PLEX ("Reading takes them there, each may be missing"), its kind's records, then its properties
   unfoldable pub elementAfter : ℕ → Reader Said
   elementAfter kind = do
+    f ← optional kind 0 ELFLAGS
+    p ← optional kind 0 PLEX
     b ← bodyAfter kind
     qs ← properties kind
-    pure (record { body = b; properties = qs })
+    pure (record { flags = mapOption number f; plex = mapOption long p; body = b; properties = qs })
 
   -- the element of index i, whose first record is r: "block k is element index k − 1"
   unfoldable pub elementFrom : ℕ → Rec → Parse Stop Rec Said

@@ -1,4 +1,4 @@
--- Records (the GDSII manual, "Record descriptions"; document 01, "Result one"; document 02, request 3; config/gds_file_types.rs): a code, a data type, data. Assumes nothing.
+-- Records (the GDSII manual, "Record descriptions"; document 01, "Result one"; document 02, requests 3 and 5; config/gds_file_types.rs): a code, a data type, data. Assumes nothing.
 use mathlib.Core.Bool.{Bool, false, _&&_, cond}
 use mathlib.Core.List.{List, [], _∷_, _++_}
 use Prim.Native.Nat.{ℕ, zero, suc, _+_, _-_, _%_}
@@ -84,6 +84,9 @@ ANGLE = 0x1C
 abbrev pub PATHTYPE : ℕ
 PATHTYPE = 0x21
 
+abbrev pub ELFLAGS : ℕ
+ELFLAGS = 0x26
+
 abbrev pub NODETYPE : ℕ
 NODETYPE = 0x2A
 
@@ -98,6 +101,9 @@ BOX = 0x2D
 
 abbrev pub BOXTYPE : ℕ
 BOXTYPE = 0x2E
+
+abbrev pub PLEX : ℕ
+PLEX = 0x2F
 
 abbrev pub BGNEXTN : ℕ
 BGNEXTN = 0x30
@@ -158,6 +164,8 @@ manual =
     ∷ row TEXT noData (exactly 0)
     ∷ row NODE noData (exactly 0)
     ∷ row BOX noData (exactly 0)
+    ∷ row ELFLAGS bitArray (exactly 2)
+    ∷ row PLEX fourByte (exactly 4)
     ∷ row LAYER twoByte (exactly 2)
     ∷ row DATATYPE twoByte (exactly 2)
     ∷ row TEXTTYPE twoByte (exactly 2)

@@ -1,4 +1,4 @@
--- The records of a structure (document 01, "Result one"; BOX: document 02, request 3), in the order of its elements' lists. Assumes nothing.
+-- The records of a structure (document 01, "Result one"; BOX: document 02, request 3; ELFLAGS and PLEX: its request 5), in the order of its elements' lists. Assumes nothing.
 use mathlib.Core.Bool.{Bool, cond}
 use mathlib.Core.Option.{Option, none, some}
 use mathlib.Core.List.{List, [], _∷_, _++_}
@@ -8,7 +8,7 @@ use mir.Val.{ofZ}
 use mir.Syntax.{w32}
 use Rattle.big_endian.specs.Big.{bytesOf, joined}
 use Rattle.units.specs.Point.{Point, endpoint}
-use Rattle.stream.specs.Record.{Rec, BGNSTR, STRNAME, ENDSTR, BOUNDARY, PATH, SREF, AREF, TEXT, LAYER, DATATYPE, WIDTH, XY, ENDEL, SNAME, COLROW, NODE, TEXTTYPE, PRESENTATION, STRING, STRANS, MAG, ANGLE, PATHTYPE, NODETYPE, PROPATTR, PROPVALUE, BOX, BOXTYPE, BGNEXTN, ENDEXTN, noData, bitArray, twoByte, fourByte, eightByteReal, asciiString, streamBytes}
+use Rattle.stream.specs.Record.{Rec, BGNSTR, STRNAME, ENDSTR, BOUNDARY, PATH, SREF, AREF, TEXT, LAYER, DATATYPE, WIDTH, XY, ENDEL, SNAME, COLROW, NODE, TEXTTYPE, PRESENTATION, STRING, STRANS, MAG, ANGLE, PATHTYPE, NODETYPE, PROPATTR, PROPVALUE, BOX, BOXTYPE, ELFLAGS, PLEX, BGNEXTN, ENDEXTN, noData, bitArray, twoByte, fourByte, eightByteReal, asciiString, streamBytes}
 use Rattle.stream.specs.Structure.{Property, Strans, Shape, Path, Text, Sref, Aref, boundary, path, text, node, sref, aref, box, SaidBody, Said, Structure}
 
 -- ---- one record
@@ -133,8 +133,16 @@ unfoldable pub tailRecords : List Property → List Rec → List Rec
 tailRecords [] rest = emptyRecord ENDEL ∷ rest
 tailRecords (q ∷ qs) rest = wordRecord PROPATTR (q .attribute) ∷ stringRecord PROPVALUE (q .value) ∷ tailRecords qs rest
 
+-- "The records ELFLAGS and PLEX follow the element's first record, in this order"
+abbrev pub optionRecords : Option ℕ → Option ℤ → List Rec → List Rec
+optionRecords flags plex rest = opt (bitsRecord ELFLAGS) flags (opt (longRecord PLEX) plex rest)
+
+unfoldable pub withOptions : Option ℕ → Option ℤ → List Rec → List Rec
+withOptions flags plex [] = []
+withOptions flags plex (first ∷ rest) = first ∷ optionRecords flags plex rest
+
 abbrev pub elementRecords : Said → List Rec → List Rec
-elementRecords e rest = bodyRecords (e .body) (tailRecords (e .properties) rest)
+elementRecords e rest = withOptions (e .flags) (e .plex) (bodyRecords (e .body) (tailRecords (e .properties) rest))
 
 abbrev pub elementsRecords : List Said → List Rec → List Rec
 elementsRecords [] rest = rest

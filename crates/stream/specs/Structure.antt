@@ -1,4 +1,4 @@
--- What the records of a structure say (document 01, "Result one" and "What a structure draws"; document 02, request 3). Assumes nothing.
+-- What the records of a structure say (document 01, "Result one" and "What a structure draws"; document 02, requests 3 and 5). Assumes nothing.
 -- A body is over the type P of a presentation and T of a transform: records say each or leave it out, and Drawn.antt has what that is worth.
 use mathlib.Core.Bool.{Bool}
 use mathlib.Core.Option.{Option}
@@ -65,7 +65,10 @@ pub data Body (P T : Type 0) : Type 0 where
   aref : Aref T → Body P T
   box : Shape → Body P T
 
+-- with the numbers of ELFLAGS and PLEX, each of which may be missing
 pub record Element (P T : Type 0) : Type 0 where
+  pub flags : Option ℕ
+  pub plex : Option ℤ
   pub body : Body P T
   pub properties : List Property
 

@@ -5,11 +5,11 @@ ghost use Prim.Native.Nat.{_+_, _≤_, _<_, _^_};
 ghost use lib.ListN.{length};
 ghost use Rattle.test_report.specs.Cases.{doubleAt};
 
-// 2,097,152 zeros, for all cases at once.
-pub fn room() -> [u8; 2097152]
-    ensures { λ r. ⌜ 2097152 ≡ length r ⌝ }
+// 2,359,296 zeros, for all cases at once.
+pub fn room() -> [u8; 2359296]
+    ensures { λ r. ⌜ 2359296 ≡ length r ⌝ }
 {
-    [0; 2097152]
+    [0; 2359296]
 }
 
 // The double at a place.

@@ -1,15 +1,18 @@
--- The head and the elements of which places tell, and that the places lie in the block (document 01, "Input", the list; boxes: document 02, request 3). Assumes nothing.
+-- The head and the elements of which places tell, and that the places lie in the block (document 01, "Input", the list; boxes: document 02, request 3; flags and plex numbers: its request 5). Assumes nothing.
 use mathlib.Core.Path.{_≡_}
-use mathlib.Core.Bool.{cond}
+use mathlib.Core.Bool.{Bool, cond}
 use mathlib.Core.Option.{Option, none, some}
 use mathlib.Core.List.{List}
 use Prim.Native.Nat.{ℕ, _+_, _*_, _≤_}
 use lib.Dec.{eqb}
-use lib.ListN.{length}
+use lib.ListN.{length, drop}
+use lib.IntN.{ℤ}
+use mir.Val.{toZ}
+use mir.Syntax.{w32}
 use Rattle.big_endian.specs.Big.{numberAt}
 use Rattle.units.specs.declared.Unit.{Unit}
 use Rattle.units.specs.Point.{Point}
-use Rattle.sheet.specs.Element.{Property, Head, Shape, Path, Text, Reference, Box, Body, polygon, path, text, node, reference, box, polygonKind, pathKind, textKind, nodeKind, referenceKind}
+use Rattle.sheet.specs.Element.{Property, Head, Shape, Path, Text, Reference, Box, Body, polygon, path, text, node, reference, box, polygonKind, pathKind, textKind, nodeKind, referenceKind, flagsRaise, plexRaise, raised, plainKind}
 use Rattle.block_places.specs.declared.HeadPlaces.{HeadPlaces}
 use Rattle.block_places.specs.declared.PointsPlaces.{PointsPlaces}
 use Rattle.block_places.specs.declared.ShapePlaces.{ShapePlaces}
@@ -20,6 +23,7 @@ use Rattle.block_places.specs.declared.BoxPlaces.{BoxPlaces}
 use Rattle.block_places.specs.declared.BodyPlaces.{BodyPlaces}
 use Rattle.block_places.specs.declared.BodyPlaces.the-variants as B
 use Rattle.block_places.specs.declared.PropertyPlaces.{PropertyPlaces}
+use Rattle.block_places.specs.declared.Options.{Options}
 use Rattle.block_places.specs.declared.ElementPlaces.{ElementPlaces}
 use Rattle.block_places.specs.code.Place.{placeFrom, wordsFrom, doubleAt, coordinateAt, pointAt, pointsFrom, spacingAt, stringAt, stringEnd, propertyEnd, propertiesFrom, stampNumbers, stampsLength, coordinateLength, pointLength}
 
@@ -95,6 +99,39 @@ bodyAt b (B.Box s) = box (boxAt b s)
 abbrev pub propertiesAt : List ℕ → PropertyPlaces → List Property
 propertiesAt b q = propertiesFrom (q .count) b (q .place)
 
+-- the options, each of which may be absent
+abbrev pub flagsOf : Options → Option ℕ
+flagsOf o = cond (o .flagged) (some (o .flags)) none
+
+abbrev pub plexOf : Options → Option ℤ
+plexOf o = cond (o .plexed) (some (toZ w32 (o .plex))) none
+
+-- ---- the options, after the kind byte: "with both, flags come first"
+
+-- the bytes of a part that may be absent
+abbrev pub sizeIf : Bool → ℕ → ℕ
+sizeIf there n = cond there n 0
+
+-- how many bytes they take after the kind byte k
+unfoldable pub shiftOf : ℕ → ℕ
+shiftOf k = sizeIf (raised flagsRaise k) 2 + sizeIf (raised plexRaise k) 4
+
+-- 0 for what is absent
+unfoldable pub optionsAt : List ℕ → Options
+optionsAt b =
+    let k = numberAt 1 b 0 in
+    record {
+      flagged = raised flagsRaise k;
+      flags = cond (raised flagsRaise k) (numberAt 2 b 1) 0;
+      plexed = raised plexRaise k;
+      plex = cond (raised plexRaise k) (numberAt 4 b (1 + sizeIf (raised flagsRaise k) 2)) 0;
+      shift = shiftOf k;
+    }
+
+-- The block less the bytes of its options: its first byte stands for the kind byte and is not looked at, so the parts of a body stand at the same places with options and without.
+unfoldable pub shifted : List ℕ → List ℕ
+shifted b = drop (shiftOf (numberAt 1 b 0)) b
+
 -- ---- where the parts of a block stand: each where the one before it ends, the first after the kind byte
 
 unfoldable pub shapePlaces : List ℕ → ShapePlaces
@@ -146,14 +183,14 @@ referencePlaces b p =
 unfoldable pub boxPlaces : List ℕ → BoxPlaces
 boxPlaces b = record { layer = numberAt 2 b 1; boxtype = numberAt 2 b 3; first = 5; second = 39 }
 
--- by the kind byte: a box for what is left, of which a well-formed block has 6 alone
-unfoldable pub bodyPlaces : List ℕ → BodyPlaces
-bodyPlaces b =
-    cond (eqb (numberAt 1 b 0) polygonKind) (B.Polygon (shapePlaces b))
-    (cond (eqb (numberAt 1 b 0) pathKind) (B.Path (pathPlaces b))
-    (cond (eqb (numberAt 1 b 0) textKind) (B.Text (textPlaces b))
-    (cond (eqb (numberAt 1 b 0) nodeKind) (B.Node (shapePlaces b))
-    (cond (eqb (numberAt 1 b 0) referenceKind) (B.Reference (referencePlaces b (stringEnd b 1)))
+-- by the kind k, without additions: a box for what is left, of which a well-formed block has 6 alone
+unfoldable pub bodyPlaces : ℕ → List ℕ → BodyPlaces
+bodyPlaces k b =
+    cond (eqb k polygonKind) (B.Polygon (shapePlaces b))
+    (cond (eqb k pathKind) (B.Path (pathPlaces b))
+    (cond (eqb k textKind) (B.Text (textPlaces b))
+    (cond (eqb k nodeKind) (B.Node (shapePlaces b))
+    (cond (eqb k referenceKind) (B.Reference (referencePlaces b (stringEnd b 1)))
     (B.Box (boxPlaces b))))))
 
 abbrev pub pointsEnd : PointsPlaces → ℕ
@@ -168,11 +205,18 @@ bodyEnd b (B.Node s) = pointsEnd (s .points)
 bodyEnd b (B.Reference s) = s .row + pointLength
 bodyEnd b (B.Box s) = s .second + pointLength
 
+-- the body of a block behind its options, and where it ends
+abbrev pub bodyIn : List ℕ → BodyPlaces
+bodyIn b = bodyPlaces (plainKind (numberAt 1 b 0)) (shifted b)
+
+abbrev pub bodyEndIn : List ℕ → ℕ
+bodyEndIn b = bodyEnd (shifted b) (bodyIn b)
+
 -- the count of the properties stands where the body ends
 unfoldable pub elementPlaces : List ℕ → ElementPlaces
 elementPlaces b =
-    let end = bodyEnd b (bodyPlaces b) in
-    record { body = bodyPlaces b; properties = record { count = numberAt 2 b end; place = end + 2 } }
+    let end = bodyEndIn b in
+    record { options = optionsAt b; body = bodyIn b; properties = record { count = numberAt 2 (shifted b) end; place = end + 2 } }
 
 -- ---- the places lie in the block: for those that read by them
 

@@ -2,46 +2,67 @@
 use mathlib.Core.Path.{_≡_}
 use mathlib.Core.Bool.{true}
 use mathlib.Core.Option.{Option, none, some}
-use mathlib.Core.List.{List, []}
+use mathlib.Core.List.{List, _++_}
 use Prim.Native.Nat.{ℕ, _+_, _*_, _≤_}
 use lib.Dec.{T}
-use lib.ListN.{length}
+use lib.ListN.{length, take, drop}
 use lib.Ieee.{Float}
 use Rattle.refusal.specs.declared.Refusal.the-variants as R
 use Rattle.conversion.specs.declared.GdsRoundingPolicy.{GdsRoundingPolicy}
 use Rattle.conversion.specs.code.Fold.{blankEntry, run}
-use Rattle.sheet.specs.Element.{Element, kindOf, elementOf}
-use Rattle.stream.specs.Structure.{SaidBody}
-use Rattle.stream.specs.Record.{streamBytes}
-use Rattle.stream.specs.Records.{bodyRecords, elementBytes}
-use Rattle.cell.specs.Write.{writeElement}
+use Rattle.conversion.specs.Made.{Made, pure, _>>=_}
+use Rattle.sheet.specs.Element.{Body, Element, kindOf, elementOf}
+use Rattle.sheet.specs.Element as S
+use Rattle.stream.specs.Structure.{Property, SaidBody}
+use Rattle.stream.specs.Record.{ELFLAGS, PLEX}
+use Rattle.stream.specs.Records.{bitsRecord, longRecord, elementBytes}
+use Rattle.cell.specs.Write.{writeBody, writeProperties, writeElement}
 use Rattle.cell.specs.Order.{Accepted}
 use Rattle.steps.specs.declared.Measured.{Measured}
 use Rattle.steps.specs.declared.Measured.the-variants as M
 use Rattle.steps.specs.declared.Written.{Written}
 use Rattle.steps.specs.code.Steps.{sizing, Writes}
-use Rattle.block_places.specs.declared.BodyPlaces.{BodyPlaces}
-use Rattle.block_places.specs.declared.BodyPlaces.the-variants as B
-use Rattle.block_places.specs.code.Places.{pathAt}
-use Rattle.polygon_node.specs.code.Shape.{shapeLength}
-use Rattle.boxes.specs.code.Box.{boxLength}
-use Rattle.path.specs.code.Length.{pathLength}
-use Rattle.text.specs.code.Text.{textLength}
-use Rattle.reference.specs.code.Reference.{referenceLength}
+use Rattle.records.specs.code.Bytes.{recordHead, wordRecordLength, longRecordLength, Placed, optBytes}
+use Rattle.block_places.specs.declared.Options.{Options}
+use Rattle.block_places.specs.code.Places.{flagsOf, plexOf, sizeIf}
+use Rattle.properties.specs.code.Tail.{tailBytes}
+use Rattle.bodies.specs.code.Body.{bodyBytes}
 
--- ---- an element's bytes before its properties
+-- ---- body and properties: an element that has no options
 
-unfoldable pub bodyBytes : SaidBody → List ℕ
-bodyBytes w = streamBytes (bodyRecords w [])
+pub record Parts : Type 0 where
+  pub body : SaidBody
+  pub properties : List Property
 
--- their length, by the block alone
-unfoldable pub bodyLength : List ℕ → BodyPlaces → ℕ
-bodyLength b (B.Polygon s) = shapeLength (s .points .count)
-bodyLength b (B.Path s) = pathLength (pathAt b s)
-bodyLength b (B.Text s) = textLength b s
-bodyLength b (B.Node s) = shapeLength (s .points .count)
-bodyLength b (B.Reference s) = referenceLength b s
-bodyLength b (B.Box s) = boxLength
+unfoldable pub writeParts : GdsRoundingPolicy → Float → Body → List S.Property → Made Parts
+writeParts policy d e qs = do
+  w ← writeBody policy d e
+  rs ← writeProperties qs
+  pure (record { body = w; properties = rs })
+
+unfoldable pub partsBytes : Parts → List ℕ
+partsBytes p = bodyBytes (p .body) ++ tailBytes (p .properties)
+
+-- ---- the options: the bytes of ELFLAGS and PLEX
+
+abbrev pub optionsLength : Options → ℕ
+optionsLength o = sizeIf (o .flagged) wordRecordLength + sizeIf (o .plexed) longRecordLength
+
+-- of both
+abbrev pub maxOptionsLength : ℕ
+maxOptionsLength = 14
+
+unfoldable pub optionsBytes : Options → List ℕ
+optionsBytes o = optBytes (bitsRecord ELFLAGS) (flagsOf o) ++ optBytes (longRecord PLEX) (plexOf o)
+
+-- what is measured of the parts, with n bytes more
+abbrev pub longer : ℕ → Measured → Measured
+longer n (M.Refused r) = M.Refused r
+longer n (M.Through length e) = M.Through (length + n) e
+
+-- the first record, which stands at `from`, put at the start, with the options after it
+abbrev pub PutsOptions : Options → List ℕ → List ℕ → ℕ → Type 0
+PutsOptions o before after to = Placed (take recordHead (drop (optionsLength o) before) ++ optionsBytes o) (recordHead + optionsLength o) before after 0 to
 
 -- ---- the element of index i that a block holds: "form first", then its own refusals
 

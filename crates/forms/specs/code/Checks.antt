@@ -1,16 +1,19 @@
 -- What the checks of a form promise. A form is held to what stands in the block: it gives exactly that, or is ill-formed. Assumes nothing.
 use mathlib.Core.Path.{_≡_}
-use mathlib.Core.Bool.{Bool, true, cond}
+use mathlib.Core.Bool.{Bool, true, cond, _&&_}
 use mathlib.Core.Option.{Option, none, some}
 use mathlib.Core.List.{List}
-use Prim.Native.Nat.{ℕ, _≤_}
-use lib.Dec.{T}
+use Prim.Native.Nat.{ℕ, _+_, _≤_}
+use lib.Dec.{T, leb, ltb}
 use lib.ListN.{length, drop}
+use Rattle.big_endian.specs.Big.{numberAt}
 use Rattle.units.specs.declared.Unit as Coordinate
 use Rattle.parsing.specs.Parse.{Part, ill, part, IllFormed, illFormed, present, whole, _>>=_}
 use Rattle.sheet.specs.Form.{Form, counted, coordinate}
-use Rattle.sheet.specs.Element.{Property, Path, Head, Body, Element, property, bodyForm, headOf, elementOf}
+use Rattle.sheet.specs.Element.{Property, Path, Head, Body, Element, kindLimit, property, bodyForm, headOf, elementOf}
 use Rattle.block_places.specs.declared.BodyPlaces.{BodyPlaces}
+use Rattle.block_places.specs.declared.PropertyPlaces.{PropertyPlaces}
+use Rattle.block_places.specs.declared.Options.{Options}
 use Rattle.forms.specs.declared.PropertiesForm.{PropertiesForm}
 use Rattle.forms.specs.declared.PropertiesForm.the-variants as P
 use Rattle.forms.specs.declared.BodyForm.{BodyForm}
@@ -20,7 +23,7 @@ use Rattle.forms.specs.declared.HeadForm.the-variants as H
 use Rattle.forms.specs.declared.ElementForm.{ElementForm}
 use Rattle.forms.specs.declared.ElementForm.the-variants as E
 use Rattle.block_places.specs.code.Place.{coordinateAt}
-use Rattle.block_places.specs.code.Places.{headAt, bodyAt, propertiesAt, HeadIn, BodyIn, PropertiesIn, ElementIn}
+use Rattle.block_places.specs.code.Places.{headAt, bodyAt, propertiesAt, flagsOf, plexOf, shiftOf, optionsAt, HeadIn, BodyIn, PropertiesIn, ElementIn}
 
 -- a coordinate that is not absent
 abbrev pub given : Form Coordinate.Unit
@@ -74,9 +77,16 @@ abbrev pub headFormAt : List ℕ → HeadForm → Option Head
 headFormAt b H.Ill = none
 headFormAt b (H.Head s) = some (headAt b s)
 
+-- a kind byte that is raised by no more than both options, and what it is raised for
+unfoldable pub optionsIn : List ℕ → Bool
+optionsIn b = leb 1 (length b) && ltb (numberAt 1 b 0) kindLimit && leb (1 + shiftOf (numberAt 1 b 0)) (length b)
+
+-- body and properties in the block that is left without the options
 abbrev pub elementAt : List ℕ → ElementForm → Option Element
 elementAt b E.Ill = none
-elementAt b (E.Element s q) = some (record { body = bodyAt b s; properties = propertiesAt b q })
+elementAt b (E.Element o s q) =
+    let rest = drop (o .shift) b in
+    some (record { flags = flagsOf o; plex = plexOf o; body = bodyAt rest s; properties = propertiesAt rest q })
 
 abbrev pub HeadFormIn : List ℕ → HeadForm → Type 0
 HeadFormIn b H.Ill = T true
@@ -86,9 +96,15 @@ pub record HeadRead (b : List ℕ) (r : HeadForm) : Type 0 where
   pub form : headOf b ≡ headFormAt b r
   pub places : HeadFormIn b r
 
+-- the options are the block's, and body and properties lie in what is left without them
+pub record OptionsRead (b : List ℕ) (o : Options) (s : BodyPlaces) (q : PropertyPlaces) : Type 0 where
+  pub options : o ≡ optionsAt b
+  pub shift-in : o .shift ≤ length b
+  pub parts-in : ElementIn (drop (o .shift) b) s q
+
 abbrev pub ElementFormIn : List ℕ → ElementForm → Type 0
 ElementFormIn b E.Ill = T true
-ElementFormIn b (E.Element s q) = ElementIn b s q
+ElementFormIn b (E.Element o s q) = OptionsRead b o s q
 
 pub record ElementRead (b : List ℕ) (r : ElementForm) : Type 0 where
   pub form : elementOf b ≡ elementAt b r

@@ -95,6 +95,9 @@ enum-told-29 c = search needs
 enum-told-30 : tie.Need-enum-told-30
 enum-told-30 c = search needs
 
+enum-told-31 : tie.Need-enum-told-31
+enum-told-31 c = search needs
+
 returns : tie.Need-returns
 returns c = sym (ap number (c .enum-told .given .1))
 
@@ -185,6 +188,9 @@ returns-29 c = sym (ap number (c .enum-told29 .given .1))
 returns-30 : tie.Need-returns-30
 returns-30 c = sym (ap number (c .enum-told30 .given .1))
 
+returns-31 : tie.Need-returns-31
+returns-31 c = sym (ap number (c .enum-told31 .given .1))
+
 pub number-spec : {M : Type 1} → statement M
 number-spec =
     tie.close
@@ -219,6 +225,7 @@ number-spec =
     enum-told-28
     enum-told-29
     enum-told-30
+    enum-told-31
     returns
     returns-2
     returns-3
@@ -248,4 +255,5 @@ number-spec =
     returns-27
     returns-28
     returns-29
-    returns-30)
+    returns-30
+    returns-31)

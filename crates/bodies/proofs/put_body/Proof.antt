@@ -4,11 +4,10 @@ use native.Mathlib.Omega.{arith}
 use lib.ListN.{length}
 use borrow.Author.Needs.{needs}
 use Rattle.block_places.specs.declared.BodyPlaces.{BodyPlaces}
-use Rattle.elements.specs.code.Block.{bodyLength}
-use Rattle.elements.proofs.BodyLaws.{polygon-as, path-as, text-as, node-as, reference-as, box-as}
-use Rattle.elements.proofs.PutLaws.{Room, room-of}
-use Rattle.elements.proofs.put_body.Statement.{statement}
-use Rattle.elements.proofs.put_body.Tie as tie
+use Rattle.bodies.specs.code.Body.{bodyLength}
+use Rattle.bodies.proofs.BodyLaws.{polygon-as, path-as, text-as, node-as, reference-as, box-as, Room, room-of}
+use Rattle.bodies.proofs.put_body.Statement.{statement}
+use Rattle.bodies.proofs.put_body.Tie as tie
 
 room : (k : tie.Start) {t : BodyPlaces} → k .args .body ≡ t → Room (k .args .b .now) t (length (k .args .part .now))
 room k h = room-of h (k .pre .0) (k .pre .1 .1 .1)

@@ -1,10 +1,10 @@
--- `elements::measure_body` meets its contract: in each arm what its kind promises.
+-- `bodies::measure_body` meets its contract: in each arm what its kind promises.
 -- Assumes nothing.
 use native.Mathlib.Omega.{arith}
 use borrow.Author.Needs.{needs}
-use Rattle.elements.proofs.BodyLaws.{body-in-as, polygon-as, path-as, text-as, node-as, reference-as, box-as}
-use Rattle.elements.proofs.measure_body.Statement.{statement}
-use Rattle.elements.proofs.measure_body.Tie as tie
+use Rattle.bodies.proofs.BodyLaws.{body-in-as, polygon-as, path-as, text-as, node-as, reference-as, box-as}
+use Rattle.bodies.proofs.measure_body.Statement.{statement}
+use Rattle.bodies.proofs.measure_body.Tie as tie
 
 enum-known-body : tie.Need-enum-known-body
 enum-known-body c = search needs

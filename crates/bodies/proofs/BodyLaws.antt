@@ -1,7 +1,7 @@
 -- Measuring or writing a body is measuring or writing the kind that it is: the bytes stay. Assumes nothing.
 use mathlib.Core.Path.{_≡_, refl, sym, subst}
 use mathlib.Core.List.{List}
-use Prim.Native.Nat.{ℕ}
+use Prim.Native.Nat.{ℕ, _≤_}
 use lib.Ieee.{Float}
 use Rattle.conversion.specs.declared.GdsRoundingPolicy.{GdsRoundingPolicy}
 use Rattle.conversion.specs.declared.Entry.{Entry}
@@ -26,7 +26,7 @@ use Rattle.boxes.specs.code.Box.{boxBytes}
 use Rattle.path.specs.code.Length.{pathBytes}
 use Rattle.text.specs.code.Text.{textBytes}
 use Rattle.reference.specs.code.Reference.{referenceBytes}
-use Rattle.elements.specs.code.Block.{bodyBytes}
+use Rattle.bodies.specs.code.Body.{bodyBytes, bodyLength}
 
 -- in the arms of a `match` on the body
 pub body-in-as : (b : List ℕ) {s t : BodyPlaces} → s ≡ t → BodyIn b s → BodyIn b t
@@ -74,3 +74,13 @@ module _ (policy : GdsRoundingPolicy) (d : Float) (b : List ℕ) where
   pub box-as : {p : BodyPlaces} (s : BoxPlaces) → p ≡ B.Box s → Kind boxBytes (writeBox policy d (boxAt b s)) p
   unfolding writeBody bodyBytes
   box-as s g = subst (Kind boxBytes (writeBox policy d (boxAt b s))) (sym g) (wrapped boxBytes D.box (λ w. refl) (writeBox policy d (boxAt b s)))
+
+-- ---- writing
+
+-- what a kind's function asks, in the arm of that kind
+pub record Room (b : List ℕ) (s : BodyPlaces) (n : ℕ) : Type 0 where
+  pub inside : BodyIn b s
+  pub fits : bodyLength b s ≤ n
+
+pub room-of : {b : List ℕ} {s t : BodyPlaces} {n : ℕ} → s ≡ t → BodyIn b s → bodyLength b s ≤ n → Room b t n
+room-of {b} {s} {t} {n} h i l = subst (λ (x : BodyPlaces). Room b x n) h (record { inside = i; fits = l })

@@ -1,0 +1,3 @@
+-- Laws that other crates' proofs cite.
+pub mod BodyLaws
+pub mod LengthLaws

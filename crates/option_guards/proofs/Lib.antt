@@ -1,0 +1,2 @@
+-- The guards of flags and plex numbers.
+pub mod OptionsLaws

@@ -1,0 +1,2 @@
+-- Flags and plex numbers: test data.
+pub mod Options
