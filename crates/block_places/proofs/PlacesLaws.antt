@@ -70,11 +70,7 @@ ends-in b e h = subst (λ (s : BodyPlaces). bodyEnd b s ≤ length b) e h
 
 -- ---- options
 
-pub size-most : (t : Bool) (n : ℕ) → sizeIf t n ≤ n
-size-most true n = omega arith
-size-most false n = omega arith
-
--- of a test that holds
+-- of a part that is there
 pub size-there : (t : Bool) (n : ℕ) → t ≡ true → sizeIf t n ≡ n
 size-there t n e = rw e
 

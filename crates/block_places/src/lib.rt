@@ -10,7 +10,7 @@ ghost use Rattle.big_endian.specs.Big.{numberAt};
 ghost use Rattle.sheet.specs.Form.{absentKind};
 ghost use Rattle.sheet.specs.Element.{plainKind};
 ghost use Rattle.block_places.specs.code.Place.{wordEnd, doubleAt, unitAt, stringAt, stringEnd, maxWord, shapePointsPlace, pathPointsPlace, stringBytesPlace, boxEndPlace, afterNameLength, coordinateLength};
-ghost use Rattle.block_places.specs.code.Places.{pointsEnd, shapePlaces, pathPlaces, textPlaces, referencePlaces, boxPlaces, bodyPlaces, bodyEnd, bodyEndIn, sizeIf, shiftOf, optionsAt, shifted, elementPlaces};
+ghost use Rattle.block_places.specs.code.Places.{pointsEnd, shapePlaces, pathPlaces, textPlaces, referencePlaces, boxPlaces, bodyPlaces, bodyEnd, bodyEndIn, sizeIf, flagsSize, plexSize, maxShift, shiftOf, optionsAt, shifted, elementPlaces};
 
 // The kind byte of a coordinate.
 pub const INTEGER: u8 = 0;
@@ -392,14 +392,14 @@ pub fn size_if(there: bool, size: usize) -> usize
 
 // The bytes of the options after a kind byte.
 pub fn shift_of(kind: u8) -> usize
-    ensures { λ r. ⌜ (r ≡ shiftOf kind) × (r ≤ 6) ⌝ }
+    ensures { λ r. ⌜ (r ≡ shiftOf kind) × (r ≤ maxShift) ⌝ }
 {
     let flags = size_if(kind / FLAGS % 2 == 1, FLAGS_SIZE);
     flags + size_if(kind / PLEX % 2 == 1, PLEX_SIZE)
 }
 
 fn flags_at(b: &[u8], flagged: bool) -> u16
-    requires { ⌜ 1 + sizeIf flagged 2 ≤ length (now b) ⌝ }
+    requires { ⌜ 1 + sizeIf flagged flagsSize ≤ length (now b) ⌝ }
     ensures { λ r. ⌜ r ≡ cond flagged (numberAt 2 (now (b .entry)) 1) 0 ⌝ }
 {
     if flagged {
@@ -409,7 +409,7 @@ fn flags_at(b: &[u8], flagged: bool) -> u16
 }
 
 fn plex_at(b: &[u8], at: usize, plexed: bool) -> u32
-    requires { ⌜ at + sizeIf plexed 4 ≤ length (now b) ⌝ }
+    requires { ⌜ at + sizeIf plexed plexSize ≤ length (now b) ⌝ }
     ensures { λ r. ⌜ r ≡ cond plexed (numberAt 4 (now (b .entry)) at) 0 ⌝ }
 {
     if plexed {

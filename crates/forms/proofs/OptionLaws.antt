@@ -194,16 +194,19 @@ module _ (b : List ℕ) (e : Element) (h : elementOf b ≡ some e) where
   pub kind-within : 1 ≤ length b
   kind-within = let l = options-within b fits in omega arith
 
+  abbrev made : Body → List Property → Element
+  made x qs = record { flags = flagsOf (optionsAt b); plex = plexOf (optionsAt b); body = x; properties = qs }
+
+  body-read : (x : Body) (z : Part IllFormed ℕ (List Property)) → ended (follow z (λ qs. pure (made x qs))) ≡ some e → e .body ≡ x
+  body-read x (ill c) d = absurd (Option·none-ne-some e d)
+  body-read x (part qs []) d = let f : made x qs ≡ e = cc in ap (λ (y : Element). y .body) (sym f)
+  body-read x (part qs (c ∷ t)) d = absurd (Option·none-ne-some e d)
+
   pub kind-read : kindOf (e .body) ≡ plainKind (numberAt 1 b 0)
   unfolding elementOf
-  kind-read = first (bodyForm (plainKind (numberAt 1 b 0)) (drop 1 (drop (shiftOf (numberAt 1 b 0)) b))) (body-kind (plainKind (numberAt 1 b 0)) (drop 1 (drop (shiftOf (numberAt 1 b 0)) b))) (ap ended (sym (opened-as b fits)) ∙ h)
+  kind-read = go (bodyForm (plainKind (numberAt 1 b 0)) (drop 1 (drop (shiftOf (numberAt 1 b 0)) b))) refl (ap ended (sym (opened-as b fits)) ∙ h)
     where
-      second : (x : Body) (z : Part IllFormed ℕ (List Property)) → ended (follow z (λ qs. pure (record { flags = flagsOf (optionsAt b); plex = plexOf (optionsAt b); body = x; properties = qs }))) ≡ some e → e .body ≡ x
-      second x (ill c) d = absurd (Option·none-ne-some e d)
-      second x (part qs []) d = let f : record { flags = flagsOf (optionsAt b); plex = plexOf (optionsAt b); body = x; properties = qs } ≡ e = cc in ap (λ (y : Element). y .body) (sym f)
-      second x (part qs (c ∷ t)) d = absurd (Option·none-ne-some e d)
-
-      first : (z : Part IllFormed ℕ Body) → ((x : Body) (t : List ℕ) → z ≡ part x t → kindOf x ≡ plainKind (numberAt 1 b 0))
-          → ended (follow z (λ x. counted property >>= λ qs. pure (record { flags = flagsOf (optionsAt b); plex = plexOf (optionsAt b); body = x; properties = qs }))) ≡ some e → kindOf (e .body) ≡ plainKind (numberAt 1 b 0)
-      first (ill c) g d = absurd (Option·none-ne-some e d)
-      first (part x t) g d = ap kindOf (second x (counted property t) d) ∙ g x t refl
+      go : (z : Part IllFormed ℕ Body) → bodyForm (plainKind (numberAt 1 b 0)) (drop 1 (drop (shiftOf (numberAt 1 b 0)) b)) ≡ z
+          → ended (follow z (λ x. counted property >>= λ qs. pure (made x qs))) ≡ some e → kindOf (e .body) ≡ plainKind (numberAt 1 b 0)
+      go (ill c) g d = absurd (Option·none-ne-some e d)
+      go (part x t) g d = ap kindOf (body-read x (counted property t) d) ∙ body-kind (plainKind (numberAt 1 b 0)) (drop 1 (drop (shiftOf (numberAt 1 b 0)) b)) x t g

@@ -112,9 +112,19 @@ plexOf o = cond (o .plexed) (some (toZ w32 (o .plex))) none
 abbrev pub sizeIf : Bool → ℕ → ℕ
 sizeIf there n = cond there n 0
 
+-- the bytes of each, and of both
+abbrev pub flagsSize : ℕ
+flagsSize = 2
+
+abbrev pub plexSize : ℕ
+plexSize = 4
+
+abbrev pub maxShift : ℕ
+maxShift = 6
+
 -- how many bytes they take after the kind byte k
 unfoldable pub shiftOf : ℕ → ℕ
-shiftOf k = sizeIf (raised flagsRaise k) 2 + sizeIf (raised plexRaise k) 4
+shiftOf k = sizeIf (raised flagsRaise k) flagsSize + sizeIf (raised plexRaise k) plexSize
 
 -- 0 for what is absent
 unfoldable pub optionsAt : List ℕ → Options
@@ -124,7 +134,7 @@ optionsAt b =
       flagged = raised flagsRaise k;
       flags = cond (raised flagsRaise k) (numberAt 2 b 1) 0;
       plexed = raised plexRaise k;
-      plex = cond (raised plexRaise k) (numberAt 4 b (1 + sizeIf (raised flagsRaise k) 2)) 0;
+      plex = cond (raised plexRaise k) (numberAt 4 b (1 + sizeIf (raised flagsRaise k) flagsSize)) 0;
       shift = shiftOf k;
     }
 
