@@ -8,7 +8,7 @@ ghost use mir.Syntax.{w64};
 ghost use mir.Val.{Fits};
 ghost use Rattle.big_endian.specs.Big.{numberAt};
 ghost use Rattle.sheet.specs.Form.{absentKind};
-ghost use Rattle.sheet.specs.Element.{plainKind};
+ghost use Rattle.sheet.specs.Element.{raised, plainKind};
 ghost use Rattle.block_places.specs.code.Place.{wordEnd, doubleAt, unitAt, stringAt, stringEnd, maxWord, shapePointsPlace, pathPointsPlace, stringBytesPlace, boxEndPlace, afterNameLength, coordinateLength};
 ghost use Rattle.block_places.specs.code.Places.{pointsEnd, shapePlaces, pathPlaces, textPlaces, referencePlaces, boxPlaces, bodyPlaces, bodyEnd, bodyEndIn, sizeIf, flagsSize, plexSize, maxShift, shiftOf, optionsAt, shifted, elementPlaces};
 
@@ -390,12 +390,20 @@ pub fn size_if(there: bool, size: usize) -> usize
     0
 }
 
+// Whether a kind byte is raised.
+fn is_raised(kind: u8, by: u8) -> bool
+    requires { ⌜ 1 ≤ by ⌝ }
+    ensures { λ r. ⌜ r ≡ raised by kind ⌝ }
+{
+    kind / by % 2 == 1
+}
+
 // The bytes of the options after a kind byte.
 pub fn shift_of(kind: u8) -> usize
     ensures { λ r. ⌜ (r ≡ shiftOf kind) × (r ≤ maxShift) ⌝ }
 {
-    let flags = size_if(kind / FLAGS % 2 == 1, FLAGS_SIZE);
-    flags + size_if(kind / PLEX % 2 == 1, PLEX_SIZE)
+    let flags = size_if(is_raised(kind, FLAGS), FLAGS_SIZE);
+    flags + size_if(is_raised(kind, PLEX), PLEX_SIZE)
 }
 
 fn flags_at(b: &[u8], flagged: bool) -> u16
@@ -423,8 +431,8 @@ pub fn options_at(b: &[u8]) -> Options
     ensures { λ r. ⌜ r ≡ optionsAt (now (b .entry)) ⌝ }
 {
     let kind = big_endian::u8_at(b, 0);
-    let flagged = kind / FLAGS % 2 == 1;
-    let plexed = kind / PLEX % 2 == 1;
+    let flagged = is_raised(kind, FLAGS);
+    let plexed = is_raised(kind, PLEX);
     let place = 1 + size_if(flagged, FLAGS_SIZE);
     Options {
         flagged,

@@ -20,7 +20,7 @@ use Rattle.forms.specs.declared.ElementForm.the-variants as E
 use Rattle.block_places.specs.code.Places.{bodyAt, propertiesAt, flagsOf, plexOf, ElementIn}
 use Rattle.forms.specs.code.Checks.{PropertiesRead, BodyRead, optionsIn, ElementRead}
 use Rattle.forms.proofs.Step.{on, off}
-use Rattle.forms.proofs.OptionLaws.{no-options, withOptions, Opened, opened, shift-within}
+use Rattle.forms.proofs.OptionLaws.{no-options, behindOptions, Opened, opened, shift-within}
 
 -- the last step of a form, at the end of a block
 abbrev mapped : {A B : Type 0} → (A → B) → Option A → Option B
@@ -37,7 +37,7 @@ element-empty b e = record { form = no-options b e; places = tt }
 
 -- with the options o, in the block r that is left, of the kind k
 module _ {b : List ℕ} {o : Options} {r : List ℕ} {k : ℕ} (w : Opened b o r k) where
-  by : elementOf b ≡ ended (withOptions o (bodyForm k) (drop 1 r))
+  by : elementOf b ≡ ended (behindOptions o (bodyForm k) (drop 1 r))
   unfolding elementOf
   by = ap ended (opened w)
 

@@ -114,13 +114,13 @@ fitting b e = go (leb 1 (length b)) (ltb (numberAt 1 b 0) kindLimit) refl (leb (
     go false y q z r e = let z : _≡_ {A = ℕ} 0 1 = cc in absurd (omega arith)
 
 -- body and properties, after options o
-abbrev pub withOptions : Options → Form Body → Form Element
-withOptions o p = p >>= λ x. counted property >>= λ qs. pure (record { flags = flagsOf o; plex = plexOf o; body = x; properties = qs })
+abbrev pub behindOptions : Options → Form Body → Form Element
+behindOptions o p = p >>= λ x. counted property >>= λ qs. pure (record { flags = flagsOf o; plex = plexOf o; body = x; properties = qs })
 
 known : {A : Type 0} (t : Bool) (p : Form Body) (f : Body → Form A) {s u : List ℕ} → t ≡ true → s ≡ u → (when illFormed t p >>= f) s ≡ (p >>= f) u
 known t p f e g = rw (e, g)
 
-opened-as : (b : List ℕ) → optionsIn b ≡ true → elementForm b ≡ withOptions (optionsAt b) (bodyForm (plainKind (numberAt 1 b 0))) (drop 1 (drop (shiftOf (numberAt 1 b 0)) b))
+opened-as : (b : List ℕ) → optionsIn b ≡ true → elementForm b ≡ behindOptions (optionsAt b) (bodyForm (plainKind (numberAt 1 b 0))) (drop 1 (drop (shiftOf (numberAt 1 b 0)) b))
 unfolding optionsAt shiftOf
 opened-as b e =
     let k = numberAt 1 b 0 in
@@ -141,7 +141,7 @@ pub record Opened (b : List ℕ) (o : Options) (r : List ℕ) (k : ℕ) : Type 0
   pub kind : k ≡ plainKind (numberAt 1 b 0)
 
 module _ {b : List ℕ} {o : Options} {r : List ℕ} {k : ℕ} (w : Opened b o r k) where
-  pub opened : elementForm b ≡ withOptions o (bodyForm k) (drop 1 r)
+  pub opened : elementForm b ≡ behindOptions o (bodyForm k) (drop 1 r)
   unfolding optionsAt
   opened = rw (w .kind, w .rest, w .options) (opened-as b (w .fits))
 

@@ -223,19 +223,17 @@ record KindBack {A B : Type 0} (k : ℕ) (f : Option A) (p : Option B) : Type 0 
   plain : plainKind (k + addition flagsRaise f + addition plexRaise p) ≡ k
   low : k + addition flagsRaise f + addition plexRaise p < kindLimit
 
-raised-not : (n k : ℕ) → k / n % 2 ≡ 0 → raised n k ≡ false
-raised-not n k e = rw e
-
-raised-is : (n k : ℕ) → k / n % 2 ≡ 1 → raised n k ≡ true
-raised-is n k e = rw e
+-- by a digit c, 0 or 1
+raised-by : (c n k : ℕ) → k / n % 2 ≡ c → raised n k ≡ eqb c 1
+raised-by c n k e = rw e
 
 kind-back : {A B : Type 0} (k : ℕ) → k < flagsRaise → (f : Option A) (p : Option B) → KindBack k f p
-kind-back k h none none = record { flags = raised-not flagsRaise (k + 0 + 0) (omega arith); plex = raised-not plexRaise (k + 0 + 0) (omega arith); plain = omega arith; low = omega arith }
-kind-back k h none (some p) = record { flags = raised-not flagsRaise (k + 0 + plexRaise) (omega arith); plex = raised-is plexRaise (k + 0 + plexRaise) (omega arith); plain = omega arith; low = omega arith }
-kind-back k h (some f) none = record { flags = raised-is flagsRaise (k + flagsRaise + 0) (omega arith); plex = raised-not plexRaise (k + flagsRaise + 0) (omega arith); plain = omega arith; low = omega arith }
+kind-back k h none none = record { flags = raised-by 0 flagsRaise (k + 0 + 0) (omega arith); plex = raised-by 0 plexRaise (k + 0 + 0) (omega arith); plain = omega arith; low = omega arith }
+kind-back k h none (some p) = record { flags = raised-by 0 flagsRaise (k + 0 + plexRaise) (omega arith); plex = raised-by 1 plexRaise (k + 0 + plexRaise) (omega arith); plain = omega arith; low = omega arith }
+kind-back k h (some f) none = record { flags = raised-by 1 flagsRaise (k + flagsRaise + 0) (omega arith); plex = raised-by 0 plexRaise (k + flagsRaise + 0) (omega arith); plain = omega arith; low = omega arith }
 kind-back k h (some f) (some p) =
     let n = k + flagsRaise + plexRaise in
-    record { flags = raised-is flagsRaise n (omega arith); plex = raised-is plexRaise n (omega arith); plain = omega arith; low = omega arith }
+    record { flags = raised-by 1 flagsRaise n (omega arith); plex = raised-by 1 plexRaise n (omega arith); plain = omega arith; low = omega arith }
 
 kind-low : (b : Body) → kindOf b < flagsRaise
 kind-low (S.polygon e) = omega arith
