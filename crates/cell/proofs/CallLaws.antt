@@ -74,13 +74,3 @@ module _ (n : ℕ) (d : Float) (sheet : List ℕ) where
       go m (no_unit q f never) e = let z : ◌≡◌ {A = ℕ} 0 1 = cc in absurd (omega arith)
       go m (too_long q f u l) e = let z : ◌≡◌ {A = ℕ} 0 1 = cc in absurd (omega arith)
       go m (passes at) e = at.size
-
-  -- they have passed, where what follows them is none of their refusals
-  pub called-by : {A : Type 0} (f : Made GdsRoundingPolicy → A) {a : A} → f (checked_call n d sheet) ≡ a → ((r : Refusal) → f (refused r) ≡ a → ⊥) → Called n d sheet
-  called-by f {a} e never = go (checked_call n d sheet) calling e
-    where
-      go : (m : Made GdsRoundingPolicy) → Calling m → f m ≡ a → Called n d sheet
-      go m (unnamed g) e = absurd (never R.Policy e)
-      go m (no_unit q g h) e = absurd (never R.DatabaseUnit e)
-      go m (too_long q g u l) e = absurd (never R.SheetSize e)
-      go m (passes at) e = at

@@ -26,7 +26,7 @@ use Rattle.cell.proofs.ResultLaws.{Stops, check-stops}
 use Rattle.cell.proofs.StepLaws.{Designer, Lawful, element-lawful}
 
 -- what measuring may answer: 1 to 20, 26 and 27
-abbrev pub Measuring : Refusal → ℕ → Type 0
+abbrev Measuring : Refusal → ℕ → Type 0
 Measuring r k = T (leb (number r) 20 || within 26 (number r) 27)
 
 designer-measuring : (r : Refusal) (k : ℕ) → Designer r → Measuring r k
@@ -51,7 +51,7 @@ blocks-before policy d i (b ∷ bs) = go (element_of b) (write_blocks policy d (
     go none others h = tt
     go (some e) others h = one (kind_of e.body) (write_element policy d e) others (element-lawful d policy e) h
 
-pub sheet-before : (policy : GdsRoundingPolicy) (d : Float) (sheet : List ℕ) → Stops Measuring (write_sheet policy d sheet)
+sheet-before : (policy : GdsRoundingPolicy) (d : Float) (sheet : List ℕ) → Stops Measuring (write_sheet policy d sheet)
 unfolding write_sheet write_headed
 sheet-before policy d sheet = check-stops Measuring (pairs_fit sheet) _ _ (λ f. tt) (λ p. go (head_of (block_of sheet 0)))
   where

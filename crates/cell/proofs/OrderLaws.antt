@@ -17,7 +17,6 @@ use Rattle.parsing.specs.All.{All, done, more}
 use Rattle.conversion.specs.declared.GdsRoundingPolicy.{GdsRoundingPolicy}
 use Rattle.conversion.specs.declared.Entry.{Entry}
 use Rattle.conversion.specs.Made.{Made, refused, made}
-use Rattle.conversion.specs.Policy.{policy_of}
 use Rattle.conversion.specs.Entry.{entry_of, entry_length}
 use Rattle.conversion.proofs.PolicyLaws.{caller-unnamed, caller-with, caller-unit}
 use Rattle.sheet.specs.Element.{Head, Element, kind_of, head_of, element_of}
@@ -32,7 +31,7 @@ use Rattle.cell.specs.Cell.{Result, stopped, written, in_front, write_one, write
 use Rattle.cell.specs.Order.{Accepted, Called, Headed, Reached, First, Ordered}
 use Rattle.cell.specs.Order as O
 use Rattle.cell.proofs.ResultLaws.{Stops, check-stops, check-on, check-off}
-use Rattle.cell.proofs.CallLaws.{call-refused, call_long, call-passed, Calling, unnamed, no_unit, too_long, passes, calling, called-by}
+use Rattle.cell.proofs.CallLaws.{call-refused, call_long, call-passed, Calling, unnamed, no_unit, too_long, passes, calling}
 use Rattle.cell.proofs.WalkLaws.{walk-ill, walk_refused, walk-made}
 
 -- a test that fails
@@ -42,27 +41,6 @@ off false h = refl
 
 pub not-leb : (a b : ℕ) → (T (leb a b) → ⊥) → b < a
 not-leb a b h = leb-false a b (off (leb a b) h)
-
--- ---- 1 to 3
-
-module _ (policy : ℕ) (d : Float) (sheet : List ℕ) where
-  -- where they have passed, the rest is the cell from its 4 on
-  pub called_is : (at : Called policy d sheet) → cell_structure policy d sheet ≡ write_sheet at.rounding d sheet
-  unfolding cell_structure after_caller
-  called_is at = ap (λ (m : Made GdsRoundingPolicy). after_caller m d sheet) (call-passed policy d sheet at)
-
-  -- and they have passed where a structure is measured
-  pub accepted-called : {s : Structure} {es : List Entry} → cell_structure policy d sheet ≡ written s es → Called policy d sheet
-  unfolding cell_structure after_caller
-  accepted-called e = called-by policy d sheet (λ m. after_caller m d sheet) e (λ r z. let o : ◌≡◌ {A = ℕ} 0 1 = cc in absurd (omega arith))
-
-  -- which is that of the policy of this number
-  pub accepted-by : {s : Structure} {es : List Entry} {rounding : GdsRoundingPolicy} → cell_structure policy d sheet ≡ written s es → policy_of policy ≡ some rounding → write_sheet rounding d sheet ≡ written s es
-  accepted-by {rounding = rounding} e f =
-      let at = accepted-called e in
-      let named = at.named in
-      let p : at.rounding ≡ rounding = cc in
-      ap (λ (q : GdsRoundingPolicy). write_sheet q d sheet) (sym p) ∙ sym (called_is at) ∙ e
 
 -- ---- every refusal is the first
 
@@ -143,10 +121,15 @@ module _ (policy : ℕ) (d : Float) (sheet : List ℕ) (out report : ℕ) where
   -- ---- what is first is the refusal
 
   module _ (at : Called policy d sheet) where
-    -- 1 to 3 have passed, and 4
+    -- 1 to 3 have passed: the rest is the cell from its 4 on
+    called_is : cell_structure policy d sheet ≡ write_sheet at.rounding d sheet
+    unfolding cell_structure after_caller
+    called_is = ap (λ (m : Made GdsRoundingPolicy). after_caller m d sheet) (call-passed policy d sheet at)
+
+    -- and 4
     paired_is : (x : Option Head) → T (pairs_fit sheet) → head_of (block_of sheet 0) ≡ x → cell_structure policy d sheet ≡ write_headed at.rounding d sheet x
     unfolding write_sheet
-    paired_is x p e = called_is policy d sheet at ∙ check-on (pairs_fit sheet) _ _ (on (pairs_fit sheet) p) ∙ ap (λ (y : Option Head). write_headed at.rounding d sheet y) e
+    paired_is x p e = called_is ∙ check-on (pairs_fit sheet) _ _ (on (pairs_fit sheet) p) ∙ ap (λ (y : Option Head). write_headed at.rounding d sheet y) e
 
   -- and the head
   headed-is : (at : Headed policy d sheet) → cell_structure policy d sheet ≡ structure_with at.head (write_blocks at.called.rounding d 0 (element_blocks sheet))
@@ -190,7 +173,7 @@ module _ (policy : ℕ) (d : Float) (sheet : List ℕ) (out report : ℕ) where
   first-is r k (O.policy_above3 e) = stops r k (call-stops r (call-refused policy d sheet r (caller-unnamed policy d e)))
   first-is r k (O.unit_not_positive rounding e never) = stops r k (call-stops r (call-refused policy d sheet r (caller-unit policy d rounding e (off (positive d) never))))
   first-is r k (O.sheet_too_long rounding e u l) = stops r k (call-stops r (call_long policy d sheet rounding (caller-with policy d rounding e (on (positive d) u)) l))
-  first-is r k (O.pairs_ill_formed at never) = stops r k (called_is policy d sheet at ∙ check-off (pairs_fit sheet) _ _ (off (pairs_fit sheet) never))
+  first-is r k (O.pairs_ill_formed at never) = stops r k (called_is at ∙ check-off (pairs_fit sheet) _ _ (off (pairs_fit sheet) never))
   first-is r k (O.head_ill_formed at p e) = stops r k (paired_is at none p e)
   first-is r k (O.head_stamps h at p e never) = stops r k (paired_is at (some h) p e ∙ check-off (stamps_fit h.stamps) _ _ (off (stamps_fit h.stamps) never))
   first-is r k (O.head_name h at p e t never) =

@@ -40,8 +40,9 @@ module _ (policy : GdsRoundingPolicy) (d : Float) where
   taken-on along_y t = t.y
 
   taken-stands : (axis : Axis) {p : Float} {q : ℤ} {s : List (Point (Option Float))} {t : List (Point ℤ)} → Each TakenPoint s t → Stands axis p q s t → TakenBy (some p) q
-  taken-stands axis {p} {q} (more {a = e} {b = w} r h) (here f g) = subst (λ (z : ℤ). TakenBy (some p) z) g (subst (λ (o : Option Float). TakenBy o (on axis w)) f (taken-on axis r))
+  taken-stands axis {p = p} {q = q} (more {a = e} {b = w} r h) (here f g) = subst (λ (z : ℤ). TakenBy (some p) z) g (subst (λ (o : Option Float). TakenBy o (on axis w)) f (taken-on axis r))
   taken-stands axis (more r h) (later k) = taken-stands axis h k
+  taken-stands axis {p = p} {q = q} done x = elim x [ ]
 
   pub taken-order : T (fits binary64 d) → T (positive d) → {s : List (Point (Option Float))} {t : List (Point ℤ)} → Each TakenPoint s t → InOrder s t
   taken-order fd pd h axis p q a b k l =

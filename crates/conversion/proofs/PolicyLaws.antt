@@ -2,10 +2,10 @@
 use mathlib.Core.Path.{◌≡◌, refl, sym, ap, ◌∙◌}
 use mathlib.Core.Bool.{Bool, true, false}
 use mathlib.Core.Option.{Option, none, some}
-use Prim.Native.Nat.{ℕ, ◌≤◌, ◌<◌}
+use Prim.Native.Nat.{ℕ, ◌<◌}
 use native.Mathlib.Omega.{arith}
-use borrow.Author.Tests.{ne_eqb, leb-true, leb-false}
-use lib.Dec.{T, leb}
+use borrow.Author.Tests.{ne_eqb}
+use lib.Dec.{T}
 use lib.Ieee.{Float}
 use lib.Ieee.Positive.{positive}
 use Rattle.refusal.specs.declared.Refusal.{Refusal}
@@ -22,13 +22,6 @@ use Rattle.conversion.proofs.MadeLaws.{need-on, need-off, pure_then, refused-the
 pub policy-none : (n : ℕ) → max_policy < n → policy_of n ≡ none
 unfolding policy_of
 policy-none n h = rw (ne_eqb n 0 (λ z. omega arith), ne_eqb n 1 (λ z. omega arith), ne_eqb n 2 (λ z. omega arith), ne_eqb n 3 (λ z. omega arith))
-
-pub policy-within : (n : ℕ) {p : GdsRoundingPolicy} → policy_of n ≡ some p → n ≤ max_policy
-policy-within n e = go (leb n max_policy) refl
-  where
-    go : (t : Bool) → leb n max_policy ≡ t → n ≤ max_policy
-    go true f = leb-true n max_policy f
-    go false f = let h = policy-none n (leb-false n max_policy f) in let z : ◌≡◌ {A = ℕ} 0 1 = cc in absurd (omega arith)
 
 module _ (n : ℕ) (d : Float) where
   pub caller-unnamed : policy_of n ≡ none → caller_policy n d ≡ refused R.Policy

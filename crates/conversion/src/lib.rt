@@ -123,7 +123,7 @@ pub struct PhysicalPoint {
 }
 
 // The policy of a number up to 3.
-pub fn policy_of(n: u8) -> GdsRoundingPolicy
+fn policy_of(n: u8) -> GdsRoundingPolicy
     requires { n ≤ max_policy }
     ensures { policy_of n ≡ some result }
 {

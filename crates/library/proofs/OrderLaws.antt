@@ -15,7 +15,6 @@ use Rattle.refusal.specs.declared.Refusal.TheVariants as R
 use Rattle.parsing.specs.All.{All, done, more}
 use Rattle.conversion.specs.declared.GdsRoundingPolicy.{GdsRoundingPolicy}
 use Rattle.conversion.specs.Made.{Made, refused}
-use Rattle.conversion.specs.Policy.{policy_of}
 use Rattle.conversion.proofs.PolicyLaws.{caller-unnamed, caller-with, caller-unit}
 use Rattle.sheet.specs.Blocks.{pairs_fit, block_of}
 use Rattle.sheet.specs.Library.{LibraryHead, library_head_of, cell_sheets}
@@ -27,34 +26,13 @@ use Rattle.cell.specs.Cell as C
 use Rattle.cell.specs.Cell.{write_sheet}
 use Rattle.cell.specs.Order.{Called}
 use Rattle.cell.proofs.OrderLaws.{off, not-leb, all_snoc, length-snoc}
-use Rattle.cell.proofs.CallLaws.{call-refused, call_long, call-passed, Calling, unnamed, no_unit, too_long, passes, calling, called-by}
+use Rattle.cell.proofs.CallLaws.{call-refused, call_long, call-passed, Calling, unnamed, no_unit, too_long, passes, calling}
 use Rattle.library.specs.Library.{Result, stopped, written, WrittenCell, in_front, write_one, write_cells, LibraryFile, max_library_name_length, file_with, file_head_for, file_head_of, write_named, write_headed, write_library_sheet, after_caller, library_file, file_bytes, library_entry_length, entries_in, fitting, write_library, no_cell}
 use Rattle.library.specs.Order.{Accepted, Encodable, UnitsRefused, user_not_positive, user_not_encodable, database_not_encodable, Formed, Headed, Reached, First, Ordered}
 use Rattle.library.specs.Order as O
 use Rattle.library.proofs.ResultLaws.{Stops, check-stops, check-on, check-off}
 use Rattle.library.proofs.CellsLaws.{walk_refused, walk-written}
 use Rattle.library.proofs.FileLaws.{Encoding, refusing, encoding, encodes}
-
--- ---- 1 to 3
-
-module _ (policy : ℕ) (d : Float) (sheet : List ℕ) where
-  -- where they have passed, the rest is the library from its 23 on
-  pub called_is : (at : Called policy d sheet) → library_file policy d sheet ≡ write_library_sheet at.rounding d sheet
-  unfolding library_file after_caller
-  called_is at = ap (λ (m : Made GdsRoundingPolicy). after_caller m d sheet) (call-passed policy d sheet at)
-
-  -- and they have passed where a file is measured
-  pub accepted-called : {l : LibraryFile} → library_file policy d sheet ≡ written l → Called policy d sheet
-  unfolding library_file after_caller
-  accepted-called e = called-by policy d sheet (λ m. after_caller m d sheet) e (λ r z. let o : ◌≡◌ {A = ℕ} 0 1 = cc in absurd (omega arith))
-
-  -- which is that of the policy of this number
-  pub accepted-by : {l : LibraryFile} {rounding : GdsRoundingPolicy} → library_file policy d sheet ≡ written l → policy_of policy ≡ some rounding → write_library_sheet rounding d sheet ≡ written l
-  accepted-by {rounding = rounding} e f =
-      let at = accepted-called e in
-      let named = at.named in
-      let p : at.rounding ≡ rounding = cc in
-      ap (λ (q : GdsRoundingPolicy). write_library_sheet q d sheet) (sym p) ∙ sym (called_is at) ∙ e
 
 module _ (policy : ℕ) (d : Float) (sheet : List ℕ) (out report : ℕ) where
   -- ---- every refusal is the first
@@ -128,10 +106,15 @@ module _ (policy : ℕ) (d : Float) (sheet : List ℕ) (out report : ℕ) where
   -- ---- what is first is the refusal
 
   module _ (at : Called policy d sheet) where
-    -- 1 to 3 have passed, and the pairs
+    -- 1 to 3 have passed: the rest is the library from its 23 on
+    called_is : library_file policy d sheet ≡ write_library_sheet at.rounding d sheet
+    unfolding library_file after_caller
+    called_is = ap (λ (m : Made GdsRoundingPolicy). after_caller m d sheet) (call-passed policy d sheet at)
+
+    -- and the pairs
     paired_is : (x : Option LibraryHead) → T (pairs_fit sheet) → library_head_of (block_of sheet 0) ≡ x → library_file policy d sheet ≡ write_headed at.rounding d sheet x
     unfolding write_library_sheet
-    paired_is x p e = called_is policy d sheet at ∙ check-on (pairs_fit sheet) _ _ (on (pairs_fit sheet) p) ∙ ap (λ (y : Option LibraryHead). write_headed at.rounding d sheet y) e
+    paired_is x p e = called_is ∙ check-on (pairs_fit sheet) _ _ (on (pairs_fit sheet) p) ∙ ap (λ (y : Option LibraryHead). write_headed at.rounding d sheet y) e
 
   module _ (at : Formed policy d sheet) where
     formed-is : library_file policy d sheet ≡ write_headed at.called.rounding d sheet (some at.head)
@@ -214,7 +197,7 @@ module _ (policy : ℕ) (d : Float) (sheet : List ℕ) (out report : ℕ) where
   first-is r c k (O.policy_above3 e) = stops r c k (call-stops r (call-refused policy d sheet r (caller-unnamed policy d e)))
   first-is r c k (O.unit_not_positive rounding e never) = stops r c k (call-stops r (call-refused policy d sheet r (caller-unit policy d rounding e (off (positive d) never))))
   first-is r c k (O.sheet_too_long rounding e u l) = stops r c k (call-stops r (call_long policy d sheet rounding (caller-with policy d rounding e (on (positive d) u)) l))
-  first-is r c k (O.pairs_ill_formed at never) = stops r c k (called_is policy d sheet at ∙ check-off (pairs_fit sheet) _ _ (off (pairs_fit sheet) never))
+  first-is r c k (O.pairs_ill_formed at never) = stops r c k (called_is at ∙ check-off (pairs_fit sheet) _ _ (off (pairs_fit sheet) never))
   first-is r c k (O.head_ill_formed at p e) = stops r c k (paired_is at none p e)
   first-is r c k (O.head_stamps at never) = stops r c k (formed-is at ∙ check-off (stamps_fit at.head.stamps) _ _ (off (stamps_fit at.head.stamps) never))
   first-is r c k (O.head_units at t u) = stops r c k (stamped-is at t ∙ ap (write_named at.called.rounding d sheet at.head) (units-off at u))

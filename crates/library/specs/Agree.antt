@@ -1,23 +1,20 @@
--- Measuring a library apart from writing it (document 02, request 7: "The library writer .. amended to use both"; its request 1: "21 and 22 come once, at the end"). Assumes nothing.
-use Rattle.std.specs.Prelude.{List, ℕ, Float}
-use Rattle.binary64.specs.Value.{zero64}
-use Rattle.cell.specs.Agree.{Job, Early, Agrees}
-use Rattle.library.specs.Library.{no_cell, library_file, write_library}
-use Rattle.library.specs.Answer.{answer_of, Values, values_of}
+-- Measuring and writing a library agree (document 02, request 1: "21 and 22 come once, at the end"). Assumes nothing.
+-- Where measuring refuses, writing refuses likewise whatever the buffers; elsewhere writing gives what was measured, but for 21 and then 22, exactly where a buffer is shorter than measured.
+use Rattle.std.specs.Prelude.{◌≡◌, List, ℕ, ◌*◌, ◌≤◌, ◌<◌, Float}
+use Rattle.refusal.specs.declared.Refusal.{Refusal}
+use Rattle.refusal.specs.declared.Refusal.TheVariants as R
+use Rattle.library.specs.declared.LibraryAnswer.{LibraryAnswer}
+use Rattle.library.specs.declared.LibraryAnswer.TheVariants as A
+use Rattle.library.specs.Library.{no_cell, library_entry_length, library_file, write_library}
+use Rattle.library.specs.Answer.{answer_of}
 
--- an entry has 4 bytes more than a cell's; 21 and 22 arise in no cell
-abbrev pub library_job : Job Values
-library_job = record {
-  number = λ v. v.number;
-  length = λ v. v.length;
-  entries = λ v. v.entries;
-  entry_bytes = 37;
-  refusal = λ n. record { number = n; cell = no_cell; block = 0; length = 0; entries = 0; greatest = zero64 };
-}
+-- what writing answers where measuring answered a, given so much output and report
+pub record Agrees (out report : ℕ) (a b : LibraryAnswer) : Type 0 where
+  pub refused : (r : Refusal) (c k : ℕ) → a ≡ A.Refused r c k → b ≡ A.Refused r c k
+  pub output_short : (n e : ℕ) (g : Float) → a ≡ A.Accepted n e g → out < n → b ≡ A.Refused R.OutputShort no_cell 0
+  pub report_short : (n e : ℕ) (g : Float) → a ≡ A.Accepted n e g → n ≤ out → report < library_entry_length * e → b ≡ A.Refused R.ReportShort no_cell 0
+  pub accepted : (n e : ℕ) (g : Float) → a ≡ A.Accepted n e g → n ≤ out → library_entry_length * e ≤ report → b ≡ A.Accepted n e g
 
-abbrev pub measured : ℕ → Float → List ℕ → Values
-measured policy d sheet = values_of (answer_of (library_file policy d sheet))
-
-pub record WritingAgrees (policy : ℕ) (d : Float) (sheet : List ℕ) : Type 0 where
-  pub early : Early library_job (measured policy d sheet)
-  pub agrees : (out report : ℕ) → Agrees library_job out report (measured policy d sheet) (values_of (answer_of (write_library policy d sheet out report)))
+abbrev pub WritingAgrees : Type 0
+WritingAgrees = (policy : ℕ) (d : Float) (sheet : List ℕ) (out report : ℕ)
+    → Agrees out report (answer_of (library_file policy d sheet)) (answer_of (write_library policy d sheet out report))

@@ -12,7 +12,7 @@ use mir.Syntax.{w32}
 use mir.Val.{SFits, to_z, of_z}
 use mir.ValLaws.{to_z-of_z}
 use borrow.Author.Tests.{eq-eqb, ne_eqb}
-use Rattle.binary64.specs.Value.{same_int_lem}
+use Rattle.binary64.specs.Value.{same_int}
 use Rattle.refusal.specs.declared.Refusal.TheVariants as R
 use Rattle.units.specs.Point.{Point}
 use Rattle.conversion.specs.declared.Deviation.{Deviation}
@@ -46,17 +46,17 @@ use Rattle.polygon_node.proofs.ShapeLaws.{shape-length, shape-put}
 
 -- ---- whole numbers, which the code compares by their bits
 
-pub same_int_lem : (a b : ℤ) → SFits w32 a → SFits w32 b → of_z w32 a ≡ of_z w32 b → same_int_lem a b ≡ true
-same_int_lem a b f g e = subst (λ (z : ℤ). same_int_lem a z ≡ true) (sym (to_z-of_z w32 a f) ∙ ap (to_z w32) e ∙ to_z-of_z w32 b g) (itself a)
+pub same_int_lem : (a b : ℤ) → SFits w32 a → SFits w32 b → of_z w32 a ≡ of_z w32 b → same_int a b ≡ true
+same_int_lem a b f g e = subst (λ (z : ℤ). same_int a z ≡ true) (sym (to_z-of_z w32 a f) ∙ ap (to_z w32) e ∙ to_z-of_z w32 b g) (itself a)
   where
-    itself : (a : ℤ) → same_int_lem a a ≡ true
+    itself : (a : ℤ) → same_int a a ≡ true
     itself (pos n) = eq-eqb n n refl
     itself (negsuc n) = eq-eqb n n refl
 
-pub other-int : (a b : ℤ) → (of_z w32 a ≡ of_z w32 b → ⊥) → same_int_lem a b ≡ false
+pub other-int : (a b : ℤ) → (of_z w32 a ≡ of_z w32 b → ⊥) → same_int a b ≡ false
 other-int a b h = go a b (λ e. h (ap (of_z w32) e))
   where
-    go : (a b : ℤ) → (a ≡ b → ⊥) → same_int_lem a b ≡ false
+    go : (a b : ℤ) → (a ≡ b → ⊥) → same_int a b ≡ false
     go (pos m) (pos n) h = ne_eqb m n (λ e. h (ap pos e))
     go (pos m) (negsuc n) h = refl
     go (negsuc m) (pos n) h = refl

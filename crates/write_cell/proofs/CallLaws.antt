@@ -1,5 +1,5 @@
 -- The caller's checks before the sheet is measured (v is their answer): one law for each way out of the code. Assumes nothing.
-use mathlib.Core.Path.{◌≡◌, sym, ap, ◌∙◌, subst}
+use mathlib.Core.Path.{◌≡◌, sym, ap, ◌∙◌}
 use mathlib.Core.List.{List}
 use Prim.Native.Nat.{ℕ, ◌≤◌}
 use lib.ListN.{length}
@@ -12,9 +12,7 @@ use Rattle.cell.specs.Limits.{max_sheet_length}
 use Rattle.cell.specs.Call.{checked_call}
 use Rattle.cell.specs.Cell.{stopped, write_sheet, after_caller, cell_structure}
 use Rattle.cell.specs.Answer.{answer_of, values_of}
-use Rattle.cell.specs.Agree.{Early, cell_job}
 use Rattle.cell.proofs.CallLaws.{call-size}
-use Rattle.cell.proofs.MeasureLaws.{writing-agrees}
 use Rattle.validation.specs.declared.Called.{Called}
 use Rattle.validation.specs.declared.Called.TheVariants as C
 use Rattle.validation.specs.code.Call.{call_of}
@@ -38,4 +36,4 @@ module _ (n : ℕ) (d : Float) (s : List ℕ) (v : Called) (f : call_of v ≡ ch
 
 -- the answer's values are what is promised
 pub measures : {n : ℕ} {d : Float} {s : List ℕ} {a : Answer} → a ≡ answer_of (cell_structure n d s) → MeasuresCell n d s (values_of a)
-measures {n} {d} {s} e = record { answer = ap values_of e; early = subst (Early cell_job) (sym (ap values_of e)) (writing-agrees n d s).early }
+measures e = record { answer = ap values_of e }

@@ -1,2 +1,3 @@
 -- What measuring and writing a cell promise.
 pub mod Writer
+pub mod code

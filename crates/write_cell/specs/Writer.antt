@@ -1,20 +1,18 @@
 -- What measuring and writing a cell promise of their answer, in numbers, for every policy, unit, sheet and pair of buffers
--- (document 01, "Result three", "What a structure draws", "Where an answer is an enum"; document 02, request 7). Assumes nothing.
+-- (document 01, "Result three", "What a structure draws", "Where an answer is an enum"). Assumes nothing.
 use Rattle.std.specs.Prelude.{◌≡◌, List, ℕ, length, take, Float}
 use Rattle.stream.specs.Structure.{Structure}
-use Rattle.cell.specs.Cell.{Result, write_cell, out_after, report_after}
+use Rattle.cell.specs.Cell.{Result, cell_structure, write_cell, out_after, report_after}
 use Rattle.cell.specs.Answer.{answer_of, Values, values_of}
-use Rattle.cell.specs.Agree.{Early, Agrees, cell_job, measured}
 use Rattle.cell.specs.Draws.{Draws}
 
 -- what the definition says for buffers of these lengths
 abbrev pub defined : ℕ → Float → List ℕ → List ℕ → List ℕ → Result Structure
 defined policy d sheet out report = write_cell policy d sheet (length out) (length report)
 
--- measuring: the definition's answer, which is never 21 or 22
+-- measuring: the definition's answer, before 21 and 22
 pub record MeasuresCell (policy : ℕ) (d : Float) (sheet : List ℕ) (v : Values) : Type 0 where
-  pub answer : v ≡ measured policy d sheet
-  pub early : Early cell_job v
+  pub answer : v ≡ values_of (answer_of (cell_structure policy d sheet))
 
 -- writing: the answer's values v, and both buffers before and after
 pub record WritesCell (policy : ℕ) (d : Float) (sheet out report out' report' : List ℕ) (v : Values) : Type 0 where
@@ -25,5 +23,3 @@ pub record WritesCell (policy : ℕ) (d : Float) (sheet out report out' report' 
   pub entries : report' ≡ report_after (defined policy d sheet out report) report
   -- demand 3: an accepted cell's bytes draw the sheet's cell
   pub draws : v.number ≡ 0 → Draws policy d sheet (take v.length out')
-  -- request 7: it agrees with what measuring answers of the same policy, unit and sheet
-  pub agrees : (m : Values) → MeasuresCell policy d sheet m → Agrees cell_job (length out) (length report) m v

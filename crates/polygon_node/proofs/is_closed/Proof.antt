@@ -3,7 +3,7 @@ use mathlib.Core.Path.{sym, ap, ap₂, ◌∙◌}
 use mathlib.Core.Bool.{Bool, ◌&&◌}
 use mir.Syntax.{w32}
 use mir.Val.{SFits}
-use Rattle.binary64.specs.Value.{same_int_lem}
+use Rattle.binary64.specs.Value.{same_int}
 use Rattle.polygon_node.specs.code.Shape.{closed_ends}
 use Rattle.polygon_node.proofs.PolygonLaws.{same_int_lem, other-int}
 use borrow.Author.Rules.{rules}
@@ -26,7 +26,7 @@ returns-2 c =
     let y0 = g.0.1.0 in
     let x1 = g.0.1.1.0 in
     let y1 = g.0.1.1.1.0 in
-    sym (ap closed_ends g.1 ∙ ap (λ (t : Bool). t && same_int_lem y0 y1) (other-int x0 x1 c.if1.true))
+    sym (ap closed_ends g.1 ∙ ap (λ (t : Bool). t && same_int y0 y1) (other-int x0 x1 c.if1.true))
 
 returns-3 : tie.Need-returns-3
 returns-3 c =

@@ -27,14 +27,14 @@ returns c =
     let k = c.before in
     let v = k.before.before.check-call in
     let a = k.before.before.before.before.args in
-    (measures (ap answer_of (sym (call-stop a.policy a.d a.sheet.now v.result v.ensures k.refusal.given.1))), tt)
+    measures (ap answer_of (sym (call-stop a.policy a.d a.sheet.now v.result v.ensures k.refusal.given.1)))
 
 returns-2 : tie.Need-returns-2
 returns-2 c =
     let k = c.before.before in
     let v = k.before.before.check-call in
     let a = k.before.before.before.before.args in
-    (measures (c.measure-sheet.ensures.0 ∙ ap answer_of (sym (cell-is a.policy a.d a.sheet.now v.result v.ensures k.rounding.given.1))), c.measure-sheet.ensures.1)
+    measures (c.measure-sheet.ensures.0 ∙ ap answer_of (sym (cell-is a.policy a.d a.sheet.now v.result v.ensures k.rounding.given.1)))
 
 pub measure-cell-spec : {M : Type 1} → statement M
 measure-cell-spec = tie.close (tie.spec check-call-requires enum-known-refusal enum-known-rounding measure-sheet-requires returns returns-2)

@@ -7,7 +7,8 @@ use Rattle.sheet.specs.Library.{cell_sheets}
 use Rattle.walk.specs.declared.Ends.{Ends}
 use Rattle.library.specs.declared.LibraryAnswer.{LibraryAnswer}
 use Rattle.library.specs.declared.LibraryAnswer.TheVariants as A
-use Rattle.library.specs.Library.{Result, stopped, written, WrittenCell, write_cells, LibraryFile, write_library_sheet, cells_bytes, file_bytes, report_from, entries_in, greatest_in}
+use Rattle.library.specs.Library.{Result, stopped, written, WrittenCell, write_cells, LibraryFile, write_library_sheet, cells_bytes, file_bytes, report_from, entries_in, greatest_in, fitting, out_after, report_after}
+use Rattle.library.specs.Answer.{answer_of}
 
 -- ---- measuring
 
@@ -52,3 +53,13 @@ pub record FileFits (policy : GdsRoundingPolicy) (d : Float) (sheet : List ℕ) 
 pub record PutsFile (policy : GdsRoundingPolicy) (d : Float) (sheet out report out' report' : List ℕ) (r : Ends) : Type 0 where
   pub output : (l : LibraryFile) → write_library_sheet policy d sheet ≡ written l → Wrote (file_bytes l) out out' r.out
   pub entries : (l : LibraryFile) → write_library_sheet policy d sheet ≡ written l → Wrote (report_from 0 l.cells) report report' r.report
+
+-- ---- what follows 1 to 3: the answer, and both buffers before and after
+
+abbrev pub fitted : GdsRoundingPolicy → Float → List ℕ → List ℕ → List ℕ → Result LibraryFile
+fitted policy d sheet out report = fitting (length out) (length report) (write_library_sheet policy d sheet)
+
+pub record WritesFile (policy : GdsRoundingPolicy) (d : Float) (sheet out report out' report' : List ℕ) (r : LibraryAnswer) : Type 0 where
+  pub answer : r ≡ answer_of (fitted policy d sheet out report)
+  pub output : out' ≡ out_after (fitted policy d sheet out report) out
+  pub entries : report' ≡ report_after (fitted policy d sheet out report) report
