@@ -1,4 +1,6 @@
 // The conversions of an array (`write_reference_cell` of write/mod.rs): always through doubles, with no bypass, and the element's entry with them.
+#![tactic(auto)]
+
 ghost use Rattle.std.specs.Prelude.{◌≡◌, ◌+◌, ◌≤◌, length};
 ghost use Rattle.conversion.specs.code.Answer.{point_of};
 ghost use Rattle.conversion.specs.Array.{physical_point, physical_spacing, write_physical, write_endpoint, convert_array};
@@ -14,14 +16,14 @@ use coordinate::{Pointed, Valued};
 use refusal::Refusal;
 
 // The physical values of a point, or why there are none.
-#[derive(Drop)]
+#[derive(Clone, Copy)]
 pub enum Physical {
     Refused { refusal: Refusal },
     At { point: PhysicalPoint },
 }
 
 // The origin or a step of an array: its physical values, and those on the grid.
-#[derive(Drop)]
+#[derive(Clone, Copy)]
 pub struct ArrayPoint {
     pub px: f64,
     pub py: f64,
@@ -29,14 +31,14 @@ pub struct ArrayPoint {
     pub y: i32,
 }
 
-#[derive(Drop)]
+#[derive(Clone, Copy)]
 pub enum Converted {
     Refused { refusal: Refusal },
     At { point: ArrayPoint, entry: Entry },
 }
 
 // An array on the grid: its origin (x0, y0), its column step (ax, ay), its row step (bx, by), and the endpoints of its columns (x1, y1) and its rows (x2, y2).
-#[derive(Drop)]
+#[derive(Clone, Copy)]
 pub struct Corners {
     pub x0: i32,
     pub y0: i32,
@@ -50,7 +52,7 @@ pub struct Corners {
     pub y2: i32,
 }
 
-#[derive(Drop)]
+#[derive(Clone, Copy)]
 pub enum Array {
     Refused { refusal: Refusal },
     Converted { corners: Corners, entry: Entry },

@@ -1,4 +1,6 @@
 // Two functions for C to call and measure: the conversion of one coordinate, as the writer runs it, and `mul_add`.
+#![tactic(auto)]
+
 ghost use Rattle.std.specs.Prelude.{◌≡◌};
 ghost use Rattle.std.specs.Float.{binary64};
 ghost use Rattle.binary64.specs.Fma.{fma};

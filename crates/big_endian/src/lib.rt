@@ -1,5 +1,7 @@
 // Numbers of several bytes, big-endian, in slices: read from a place, and written to one.
 // A wider number is read and written by its halves: 256 ^ 2 is 65536, 256 ^ 4 is 4294967296. Eight bytes are read by quarters: of that sum a compiler makes one load.
+#![tactic(auto)]
+
 ghost use Rattle.std.specs.Prelude.{◌≡◌, ◌+◌, ◌≤◌, ◌<◌, length};
 ghost use Rattle.std.specs.Int.{w32};
 ghost use Rattle.std.proofs.Common.{to_z, of_z};

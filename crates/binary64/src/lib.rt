@@ -1,5 +1,7 @@
 // Doubles worked out from their bits: patterns, finite and positive, the magnitude, rounding to whole numbers, one step.
 // Every function is total on what raw input can reach; what has a `requires` works on digits and powers, below those.
+#![tactic(auto)]
+
 ghost use Rattle.std.specs.Prelude.{◌≡◌, ◌&&◌, cond, ◌+◌, ◌-◌, ◌*◌, ◌^◌, ◌<◌, min, T, leb};
 ghost use Rattle.std.specs.Float.{binary64};
 ghost use Rattle.std.specs.Float.Ieee.{of_bits, to_bits};
@@ -76,7 +78,7 @@ pub fn abs(x: f64) -> f64
 }
 
 // The sign of a double, and its size as `digits` * 2 ^ `power` units.
-#[derive(Drop)]
+#[derive(Clone, Copy)]
 pub struct Parts {
     pub negative: bool,
     pub digits: u64,
@@ -168,7 +170,7 @@ pub fn with_sign(negative: bool, size: u64) -> i64
 
 // To which whole number a double goes: the nearest with a half away from zero, the one below or the one above
 // (IEEE 754, 5.9: round_to_integral_ties_to_away, round_to_integral_toward_negative, round_to_integral_toward_positive).
-#[derive(Drop)]
+#[derive(Clone, Copy)]
 pub enum Direction {
     Nearest,
     Down,

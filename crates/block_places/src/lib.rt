@@ -1,4 +1,6 @@
 // Where the parts of a block stand, and what stands at a place. Nothing is copied: what comes after reads the parts by place. Whether the block is well formed is asked by the crate `forms`.
+#![tactic(auto)]
+
 ghost use Rattle.std.specs.Prelude.{◌≡◌, cond, ◌+◌, ◌≤◌, eqb, length, drop};
 ghost use Rattle.std.specs.Int.{w64};
 ghost use Rattle.std.proofs.Common.{Fits};
@@ -138,21 +140,21 @@ pub const HEAD_NAME: usize = 0;
 pub const STAMPS: usize = 24;
 
 // The head: the places of its name and of its twelve stamp numbers.
-#[derive(Drop)]
+#[derive(Clone, Copy)]
 pub struct HeadPlaces {
     pub name: usize,
     pub stamps: usize,
 }
 
 // How many points there are in a row, and the place of the first.
-#[derive(Drop)]
+#[derive(Clone, Copy)]
 pub struct PointsPlaces {
     pub count: usize,
     pub place: usize,
 }
 
 // A polygon or a node: its numbers and its points.
-#[derive(Drop)]
+#[derive(Clone, Copy)]
 pub struct ShapePlaces {
     pub layer: u16,
     pub datatype: u16,
@@ -160,7 +162,7 @@ pub struct ShapePlaces {
 }
 
 // A path: its numbers, the places of its three lengths, and its points.
-#[derive(Drop)]
+#[derive(Clone, Copy)]
 pub struct PathPlaces {
     pub layer: u16,
     pub datatype: u16,
@@ -172,7 +174,7 @@ pub struct PathPlaces {
 }
 
 // A text: its numbers, and the places of its origin and its string.
-#[derive(Drop)]
+#[derive(Clone, Copy)]
 pub struct TextPlaces {
     pub layer: u16,
     pub texttype: u16,
@@ -186,7 +188,7 @@ pub struct TextPlaces {
 }
 
 // A reference: its numbers, and the places of its name, its origin and its column and row spacing.
-#[derive(Drop)]
+#[derive(Clone, Copy)]
 pub struct ReferencePlaces {
     pub name: usize,
     pub columns: u32,
@@ -202,7 +204,7 @@ pub struct ReferencePlaces {
 }
 
 // A box: its numbers, and the places of its two corners.
-#[derive(Drop)]
+#[derive(Clone, Copy)]
 pub struct BoxPlaces {
     pub layer: u16,
     pub boxtype: u16,
@@ -211,7 +213,7 @@ pub struct BoxPlaces {
 }
 
 // The body of an element by its kind.
-#[derive(Drop)]
+#[derive(Clone, Copy)]
 pub enum BodyPlaces {
     Polygon { shape: ShapePlaces },
     Path { path: PathPlaces },
@@ -222,14 +224,14 @@ pub enum BodyPlaces {
 }
 
 // How many properties an element has, and the place of the first.
-#[derive(Drop)]
+#[derive(Clone, Copy)]
 pub struct PropertyPlaces {
     pub count: usize,
     pub place: usize,
 }
 
 // The flags and the plex number of an element, this as its four bytes stand, 0 where they are absent; and how many bytes they take in its block.
-#[derive(Drop)]
+#[derive(Clone, Copy)]
 pub struct Options {
     pub flagged: bool,
     pub flags: u16,
@@ -239,7 +241,7 @@ pub struct Options {
 }
 
 // An element: its options, and its body and its properties in the block that is left without them.
-#[derive(Drop)]
+#[derive(Clone, Copy)]
 pub struct ElementPlaces {
     pub options: Options,
     pub body: BodyPlaces,

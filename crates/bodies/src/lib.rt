@@ -1,4 +1,6 @@
 // The body of an element, all but its options and its properties: measured, and written, by its kind (`write_element_with_field_prefix` of write/mod.rs).
+#![tactic(auto)]
+
 ghost use Rattle.std.specs.Prelude.{◌≤◌, length};
 ghost use Rattle.conversion.specs.code.Fold.{Spare};
 ghost use Rattle.cell.specs.Write.{write_body};

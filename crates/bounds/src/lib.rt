@@ -1,4 +1,6 @@
 // Lengths known within bounds (document 02, request 11): the least and the greatest database value over all doubles between two ends.
+#![tactic(auto)]
+
 ghost use Rattle.std.specs.Prelude.{◌&&◌, ◌≡◌};
 ghost use Rattle.std.specs.Float.Ieee.Scale.{finite};
 ghost use Rattle.bounds.specs.Range as Range;
@@ -10,7 +12,7 @@ use conversion::{CallerPolicy, CoordinateConverter, DatabaseValue, GdsRoundingPo
 use refusal::Refusal;
 
 // A refusal; or the least and the greatest database value.
-#[derive(Drop)]
+#[derive(Clone, Copy)]
 pub enum RangeAnswer {
     Refused { refusal: Refusal },
     Range { least: i32, greatest: i32 },

@@ -1,4 +1,6 @@
 // A box (`write_box_with_converter` of write/mod.rs), from its places in the block: its checks and conversions, and then its records.
+#![tactic(auto)]
+
 ghost use Rattle.std.specs.Prelude.{◌≡◌, ◌+◌, ◌≤◌, length, Float};
 ghost use Rattle.units.specs.declared.Unit.{Unit};
 ghost use Rattle.units.specs.Point.{Point};
@@ -27,7 +29,7 @@ const BOX_XY_LENGTH: u16 = 44;
 const BOX_LENGTH: usize = 60;
 
 // The conversions of the first corner's coordinates, and of the second's.
-#[derive(Drop)]
+#[derive(Clone, Copy)]
 struct Corners {
     x1: Conversion,
     y1: Conversion,
@@ -36,7 +38,7 @@ struct Corners {
 }
 
 // A refusal; or the corners on the grid, with the entry after the five points.
-#[derive(Drop)]
+#[derive(Clone, Copy)]
 enum BoxValues {
     Refused {
         refusal: Refusal,

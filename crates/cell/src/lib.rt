@@ -1,5 +1,7 @@
 // The answer of measuring or writing a cell. specs/Answer.antt gives each case its values of document 01.
-#[derive(Drop)]
+#![tactic(auto)]
+
+#[derive(Clone, Copy)]
 pub enum Answer {
     Refused {
         refusal: refusal::Refusal,

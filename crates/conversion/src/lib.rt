@@ -1,5 +1,7 @@
 // Physical values to the database grid, and the report entry of an element (write/conversion.rs).
 // Nothing is required of the database unit d: the definitions say what each answer is for every double.
+#![tactic(auto)]
+
 ghost use Rattle.std.proofs.Math.Option.{some};
 ghost use Rattle.std.specs.Prelude.{◌≡◌, ◌+◌, ◌≤◌, ◌<◌, ◌^◌, length, T};
 ghost use Rattle.std.specs.Float.{binary64};
@@ -23,7 +25,7 @@ use refusal::Refusal;
 use units::Unit;
 
 // The rounding applied where a physical value is not on the grid.
-#[derive(Drop)]
+#[derive(Clone, Copy)]
 pub enum GdsRoundingPolicy {
     Nearest,
     Floor,
@@ -72,28 +74,28 @@ const GREATEST: i64 = 2147483647;
 const WHOLE: u64 = 1074;
 
 // The policy of a caller who has passed its first checks, or the first that failed.
-#[derive(Drop)]
+#[derive(Clone, Copy)]
 pub enum CallerPolicy {
     Refused { refusal: Refusal },
     With { policy: GdsRoundingPolicy },
 }
 
 // A database value, or why there is none.
-#[derive(Drop)]
+#[derive(Clone, Copy)]
 pub enum DatabaseValue {
     Refused { refusal: Refusal },
     At { value: i32 },
 }
 
 // A physical value, or why there is none.
-#[derive(Drop)]
+#[derive(Clone, Copy)]
 pub enum PhysicalValue {
     Refused { refusal: Refusal },
     At { value: f64 },
 }
 
 // A refusal; or the database value; or that with a deviation that counts.
-#[derive(Drop)]
+#[derive(Clone, Copy)]
 pub enum Conversion {
     Refused {
         refusal: Refusal,
@@ -109,14 +111,14 @@ pub enum Conversion {
 }
 
 // What every conversion goes by: the rounding policy, and the database unit d (gdsr's `database_units`).
-#[derive(Drop)]
+#[derive(Clone, Copy)]
 pub struct CoordinateConverter {
     pub policy: GdsRoundingPolicy,
     pub d: f64,
 }
 
 // The physical values of a point.
-#[derive(Drop)]
+#[derive(Clone, Copy)]
 pub struct PhysicalPoint {
     pub x: f64,
     pub y: f64,
@@ -361,7 +363,7 @@ pub fn endpoint_physical(spacing: f64, count: u32, origin: f64) -> f64
 }
 
 // One quantized field: which one, its physical value p, its database value q, and the error q * d - p with its sign.
-#[derive(Drop)]
+#[derive(Clone, Copy)]
 pub struct Deviation {
     pub field: u8,
     pub axis: u8,
@@ -372,7 +374,7 @@ pub struct Deviation {
 }
 
 // A report entry: the deviations of one element, counted, with one of the largest magnitude to stand for them.
-#[derive(Drop)]
+#[derive(Clone, Copy)]
 pub struct Entry {
     pub index: u32,
     pub kind: u8,

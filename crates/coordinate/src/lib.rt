@@ -1,4 +1,6 @@
 // One value, and one point: converted to the grid with the element's report entry, and a point into the lent output (`write_points_to_file` of write/mod.rs).
+#![tactic(auto)]
+
 ghost use Rattle.std.specs.Prelude.{◌≡◌, [], ◌∷◌, ◌++◌, ◌+◌, ◌≤◌, length};
 ghost use Rattle.big_endian.specs.Buffer.{WroteAt};
 ghost use Rattle.conversion.specs.code.Answer.{outcome};
@@ -17,21 +19,21 @@ use refusal::Refusal;
 const XY_LENGTH: u16 = 12;
 
 // A value of the grid, with the element's entry after it.
-#[derive(Drop)]
+#[derive(Clone, Copy)]
 pub enum Valued {
     Refused { refusal: Refusal },
     At { value: i32, entry: Entry },
 }
 
 // Two values of the grid, where no deviation counts.
-#[derive(Drop)]
+#[derive(Clone, Copy)]
 pub enum Plain {
     No,
     At { x: i32, y: i32 },
 }
 
 // A point of the grid, with the entry after it.
-#[derive(Drop)]
+#[derive(Clone, Copy)]
 pub enum Pointed {
     Refused { refusal: Refusal },
     At { x: i32, y: i32, entry: Entry },

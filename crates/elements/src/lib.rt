@@ -1,4 +1,6 @@
 // One element: a block of the sheet measured, and written (`write_element_with_field_prefix` of write/mod.rs). Its flags and its plex number, where it has them, are two records behind its first.
+#![tactic(auto)]
+
 ghost use Rattle.std.specs.Prelude.{◌≡◌, ◌+◌, ◌≤◌, length};
 ghost use Rattle.std.specs.Int.{w32};
 ghost use mir.Val as Val;

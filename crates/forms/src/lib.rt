@@ -1,4 +1,6 @@
 // The form of a block: whether it is well formed (refusal 5), and where its parts are.
+#![tactic(auto)]
+
 ghost use Rattle.std.specs.Prelude.{cond, ◌≡◌, ◌+◌, ◌*◌, ◌≤◌, length};
 ghost use Rattle.big_endian.specs.Big.{number_at};
 ghost use Rattle.parsing.specs.Parse.{times};
@@ -25,13 +27,13 @@ const MAX_PATH_TYPE: u8 = 2;
 const MAX_PRESENTATION: u8 = 2;
 
 // What the checks of a block answer: the places, or that it is ill-formed.
-#[derive(Drop)]
+#[derive(Clone, Copy)]
 pub enum HeadForm {
     Ill,
     Head { places: HeadPlaces },
 }
 
-#[derive(Drop)]
+#[derive(Clone, Copy)]
 pub enum ElementForm {
     Ill,
     Element {
@@ -42,14 +44,14 @@ pub enum ElementForm {
 }
 
 // A body, and where it ends.
-#[derive(Drop)]
+#[derive(Clone, Copy)]
 enum BodyForm {
     Ill,
     Body { places: BodyPlaces, end: usize },
 }
 
 // The properties, to the end of the block.
-#[derive(Drop)]
+#[derive(Clone, Copy)]
 enum PropertiesForm {
     Ill,
     Properties { places: PropertyPlaces },

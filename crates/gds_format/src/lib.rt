@@ -1,4 +1,6 @@
 // Eight-byte reals (write/gds_format.rs of gdsr).
+#![tactic(auto)]
+
 ghost use Rattle.std.specs.Prelude.{◌≡◌, false, ◌+◌, ◌-◌, ◌*◌, ◌^◌, ◌<◌, ◌≤◌, T, ltb, pos, ◌-ℤ◌};
 ghost use Rattle.std.specs.Float.Ieee.Scale.{finite};
 ghost use Rattle.binary64.specs.Value.{size_of, negative, floor_div};
@@ -6,7 +8,7 @@ ghost use Rattle.gds_format.specs.Real8.{min_magnitude, max_magnitude, floor_mod
 ghost use Rattle.gds_format.specs.Faithful.{EncodesReal};
 ghost use Rattle.gds_format.specs.code.Power.{zero_power, least_power, end_power};
 
-#[derive(Drop)]
+#[derive(Clone, Copy)]
 pub enum GdsReal8Error {
     NonFinite,
     MagnitudeTooSmall,
@@ -14,13 +16,13 @@ pub enum GdsReal8Error {
 }
 
 // An eight-byte real. Its bytes are those of `pattern`, the highest first: a number and no array, since an enum that holds an array is not covered.
-#[derive(Drop)]
+#[derive(Clone, Copy)]
 pub struct Real8 {
     pub pattern: u64,
 }
 
 // The answer of `Real8::encode`.
-#[derive(Drop)]
+#[derive(Clone, Copy)]
 pub enum Encoding {
     Refused { error: GdsReal8Error },
     Encoded { real: Real8 },

@@ -1,5 +1,7 @@
 // The answer of measuring or writing a library. specs/Answer.antt gives each case its values of document 02, request 1.
-#[derive(Drop)]
+#![tactic(auto)]
+
+#[derive(Clone, Copy)]
 pub enum LibraryAnswer {
     Refused {
         refusal: refusal::Refusal,

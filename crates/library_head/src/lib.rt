@@ -1,4 +1,6 @@
 // The library's head: block 0 of a library sheet checked, and the file's own records HEADER, BGNLIB, LIBNAME and UNITS (`write_gds_head_to_file` of write/mod.rs).
+#![tactic(auto)]
+
 ghost use Rattle.std.specs.Prelude.{◌+◌, ◌≤◌, length};
 ghost use Rattle.big_endian.specs.Buffer.{WroteAt};
 ghost use Rattle.stream.specs.Library.{file_head_bytes};
@@ -24,21 +26,21 @@ const MAX_NAME_LENGTH: usize = 65530;
 const HEAD_LENGTH: usize = 58;
 
 // Block 0: ill-formed, or the place of the user unit.
-#[derive(Drop)]
+#[derive(Clone, Copy)]
 enum HeadForm {
     Ill,
     Head { unit: usize },
 }
 
 // The reals of UNITS: one refused, or the patterns of both.
-#[derive(Drop)]
+#[derive(Clone, Copy)]
 enum Units {
     Refused,
     Encoded { user: u64, database: u64 },
 }
 
 // What the file's own records are made of: the place of the stamps, and the patterns of UNITS. The name stands at the start of the block.
-#[derive(Drop)]
+#[derive(Clone, Copy)]
 pub struct HeadParts {
     pub stamps: usize,
     pub user: u64,
@@ -46,7 +48,7 @@ pub struct HeadParts {
 }
 
 // Block 0 checked: a refusal, or the parts of the file's own records and how many bytes these have.
-#[derive(Drop)]
+#[derive(Clone, Copy)]
 pub enum HeadChecked {
     Refused { refusal: Refusal },
     Passed { parts: HeadParts, length: usize },

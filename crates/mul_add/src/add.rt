@@ -10,7 +10,7 @@ use super::pack::pack_wide;
 use super::wide::{Wide, difference, less, shift_right_jam, sum};
 
 // words * 2 ^ power with a sign: true is minus.
-#[derive(Drop)]
+#[derive(Clone, Copy)]
 pub(crate) struct Term {
     pub(crate) negative: bool,
     pub(crate) words: Wide,

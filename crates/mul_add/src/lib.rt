@@ -1,6 +1,8 @@
 // a * b + c with one rounding, IEEE 754's fused_multiply_add, worked out from the bits in words.
 //
 // The digits of a, b and c are normalized. The product is taken in two words, the addend is moved up to be as long, and the two are aligned, added and rounded once.
+#![tactic(auto)]
+
 mod add;
 mod pack;
 mod places;
@@ -17,7 +19,7 @@ use places::{ADDEND, WORD};
 use wide::{product, raised};
 
 // digits * 2 ^ power
-#[derive(Drop)]
+#[derive(Clone, Copy)]
 struct Scaled {
     digits: u64,
     power: u64,

@@ -6,7 +6,7 @@ ghost use Rattle.mul_add.specs.code.Jam.{sticky, jam};
 
 use super::places::{RAISE, WORD};
 
-#[derive(Drop)]
+#[derive(Clone, Copy)]
 pub(crate) struct Wide {
     pub(crate) hi: u64,
     pub(crate) lo: u64,

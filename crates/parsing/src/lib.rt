@@ -1,1 +1,2 @@
 // Reading a list from its front: definitions in specs/, laws in proofs/.
+#![tactic(auto)]

@@ -1,4 +1,6 @@
 // Paths: checked, measured, and written into the lent output (`write_path_with_converter` of write/mod.rs).
+#![tactic(auto)]
+
 ghost use Rattle.std.specs.Prelude.{◌≡◌, cond, [], ◌+◌, ◌≤◌, length};
 ghost use Rattle.stream.specs.Record.{stream_bytes};
 ghost use Rattle.conversion.specs.code.Fold.{Spare};
@@ -26,7 +28,7 @@ const MIN_PATH_POINTS: usize = 2;
 const ALWAYS: usize = 20;
 
 // A length on the grid, if it is there, with the element's entry after it.
-#[derive(Drop)]
+#[derive(Clone, Copy)]
 enum Length {
     Refused {
         refusal: Refusal,
@@ -39,7 +41,7 @@ enum Length {
 }
 
 // The three lengths on the grid, each if it is there.
-#[derive(Drop)]
+#[derive(Clone, Copy)]
 struct Extent {
     wide: bool,
     width: i32,
@@ -50,7 +52,7 @@ struct Extent {
 }
 
 // With the entry after them.
-#[derive(Drop)]
+#[derive(Clone, Copy)]
 enum Lengths {
     Refused { refusal: Refusal },
     At { extent: Extent, entry: Entry },

@@ -1,4 +1,6 @@
 // Lists of points of the sheet: measured with the element's report entry, and written into the lent output (`write_points_to_file` of write/mod.rs).
+#![tactic(auto)]
+
 ghost use Rattle.std.specs.Prelude.{◌≡◌, true, ◌+◌, ◌*◌, ◌≤◌, length};
 ghost use Rattle.std.specs.Int.{w64};
 ghost use Rattle.std.proofs.Common.{Fits};
@@ -24,7 +26,7 @@ use steps::{Measured, Written};
 const INTEGER_VALUE: usize = 5;
 
 // The first and the last of the points, with the entry after all.
-#[derive(Drop)]
+#[derive(Clone, Copy)]
 pub enum Walked {
     Refused {
         refusal: Refusal,
@@ -39,7 +41,7 @@ pub enum Walked {
 }
 
 // The first point, with the entry after it.
-#[derive(Drop)]
+#[derive(Clone, Copy)]
 struct First {
     x: i32,
     y: i32,

@@ -1,4 +1,6 @@
 // A reference (`write_reference_cell` of write/mod.rs), from its places in the block: its checks and conversions, and then its records.
+#![tactic(auto)]
+
 ghost use Rattle.std.specs.Prelude.{◌≡◌, [], ◌∷◌, ◌+◌, ◌≤◌, length};
 ghost use Rattle.big_endian.specs.Big.{number_at};
 ghost use Rattle.conversion.specs.code.Fold.{Spare, run};
@@ -36,7 +38,7 @@ const ARRAY_LENGTH: usize = 36;
 const CORNERS_LENGTH: u16 = 28;
 
 // A refusal; or the values of the records that the sheet does not hold as they are, with the entry after them.
-#[derive(Drop)]
+#[derive(Clone, Copy)]
 pub enum ReferenceValues {
     Refused {
         refusal: Refusal,

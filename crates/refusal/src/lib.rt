@@ -1,8 +1,10 @@
 // Why a cell is not written (document 01, "Who can cause which refusal"); why a library is not (document 02, request 1: `LibraryForm` to `LibraryName`); flags that the manual does not have (request 5: `Flags`), and attributes (request 6: `Attribute`); why a structure is not read (document 02, request 8: `NotStructure` to `ArrayCorners`); why two ends are no bounds (request 11: `Bounds`); why a row is not surveyed (request 12: `SurveyCount`).
+#![tactic(auto)]
+
 ghost use Rattle.std.specs.Prelude.{◌≡◌};
 ghost use Rattle.refusal.specs.Number as Number;
 
-#[derive(Drop)]
+#[derive(Clone, Copy)]
 pub enum Refusal {
     Policy,
     DatabaseUnit,

@@ -1,4 +1,6 @@
 // The cell sheet: its pairs and blocks.
+#![tactic(auto)]
+
 ghost use Rattle.std.specs.Prelude.{◌≡◌};
 ghost use Rattle.sheet.specs.Blocks.{block_of, pairs_fit};
 ghost use Rattle.sheet.specs.code.Place.{BlockIn};

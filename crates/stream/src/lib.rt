@@ -1,1 +1,2 @@
 // Records, what they draw, and reading them: definitions in specs/, laws in proofs/.
+#![tactic(auto)]

@@ -1,4 +1,6 @@
 // Reads a policy byte, d and a cell sheet; writes the cell's structure and its report in hexadecimal, or the refusal (document 01, "structure").
+#![tactic(auto)]
+
 ghost use Rattle.std.specs.Prelude.{◌≡◌, ◌+◌, ◌*◌, ◌≤◌, length};
 ghost use Rattle.big_endian.specs.Buffer.{WroteAt};
 ghost use Rattle.conversion.specs.Entry.{entry_length};

@@ -1,4 +1,6 @@
 // The pitch survey (document 02, request 12): of the places of a row, how many a pitch disturbs.
+#![tactic(auto)]
+
 ghost use Rattle.std.specs.Prelude.{◌≡◌};
 ghost use Rattle.conversion.specs.Convert.{Spot, convert_physical};
 ghost use Rattle.survey.specs.Places as Places;
@@ -13,7 +15,7 @@ use refusal::Refusal;
 const MAX_PLACES: u32 = 65536;
 
 // What conversion gives at a place: a value with no report entry due, a value with one due, or a refusal.
-#[derive(Drop)]
+#[derive(Clone, Copy)]
 pub enum Placed {
     Clean,
     Due,
@@ -21,7 +23,7 @@ pub enum Placed {
 }
 
 // How many places of a row are each.
-#[derive(Drop)]
+#[derive(Clone, Copy)]
 pub struct Counts {
     pub clean: u32,
     pub due: u32,
@@ -29,7 +31,7 @@ pub struct Counts {
 }
 
 // A refusal; or the counts.
-#[derive(Drop)]
+#[derive(Clone, Copy)]
 pub enum SurveyAnswer {
     Refused { refusal: Refusal },
     Surveyed { counts: Counts },

@@ -1,4 +1,6 @@
 // What the cell writer and the library writer answer, as the bytes that stored cases have (tools/pack_cases.py).
+#![tactic(auto)]
+
 ghost use Rattle.std.specs.Prelude.{◌≤◌, length};
 ghost use Rattle.big_endian.specs.Buffer.{WroteAt};
 ghost use Rattle.cell.specs.Cell.{write_cell};

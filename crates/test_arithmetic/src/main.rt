@@ -1,4 +1,6 @@
 // Runs the functions on doubles on known results that another implementation gave: prints the number of each case that differs, then how many cases there are and how many differ.
+#![tactic(auto)]
+
 ghost use Rattle.std.specs.Prelude.{◌≡◌, ◌+◌, ◌*◌, ◌/◌, ◌≤◌, length, slice_index};
 ghost use Rattle.binary64.specs.code.Whole.{rounded};
 ghost use Rattle.test_arithmetic.specs.Whole.{whole_of};
@@ -40,7 +42,7 @@ const IS_POSITIVE: u8 = 7;
 const WHOLE: u64 = 1074;
 
 // A whole number near a double.
-#[derive(Drop)]
+#[derive(Clone, Copy)]
 enum Whole {
     // of a NaN or an infinity
     NotFinite,

@@ -1,4 +1,6 @@
 // The bytes of an answer as stored cases have it (tools/pack_cases.py), from its numbers.
+#![tactic(auto)]
+
 ghost use Rattle.std.specs.Prelude.{◌++◌, ◌+◌, ◌≤◌, length};
 ghost use Rattle.big_endian.specs.Buffer.{WroteAt};
 ghost use Rattle.records.specs.code.Bytes.{Placed};

@@ -1,4 +1,6 @@
 // Runs conversions to the database grid, the ranges of two bounds, and pitch surveys on known answers that another implementation gave: prints the number of each case that differs, then how many cases there are and how many differ.
+#![tactic(auto)]
+
 ghost use Rattle.std.specs.Prelude.{◌≡◌, ◌+◌, ◌*◌, ◌/◌, ◌≤◌, length};
 ghost use Rattle.big_endian.specs.Big.{number_at};
 ghost use Rattle.conversion.specs.Made.{refused};
@@ -61,7 +63,7 @@ const REFUSAL: u64 = 0x100_0000_0000;
 const COUNTS: u64 = 0x1_0000_0000;
 
 // An answer in three words.
-#[derive(Drop)]
+#[derive(Clone, Copy)]
 struct Answer {
     first: u64,
     second: u64,
@@ -69,7 +71,7 @@ struct Answer {
 }
 
 // What a caller gives first: the number of a policy, and the database unit.
-#[derive(Drop)]
+#[derive(Clone, Copy)]
 struct Caller {
     policy: u8,
     d: f64,

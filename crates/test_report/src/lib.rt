@@ -1,4 +1,6 @@
 // What the test programs read and say of their stored cases.
+#![tactic(auto)]
+
 ghost use Rattle.std.specs.Prelude.{cond, ◌≡◌, ◌+◌, ◌≤◌, ◌<◌, ◌^◌, length};
 ghost use Rattle.test_report.specs.Cases.{double_at};
 

@@ -1,4 +1,6 @@
 // Runs the cell writer and the library writer on stored cases, with the answers that another implementation gave: prints the number of each case that differs, then how many cases there are and how many differ.
+#![tactic(auto)]
+
 ghost use Rattle.std.specs.Prelude.{◌≡◌, ◌≤◌, length};
 ghost use Rattle.test_vectors.specs.Case as Case;
 ghost use Rattle.test_vectors.specs.Case.{Fits, answered_at, agrees_at, next, tally_of, verdicts};
@@ -18,7 +20,7 @@ const LENGTHS: usize = 8;
 const FRONT: usize = 10;
 
 // How many cases there are, and how many of them differ.
-#[derive(Drop)]
+#[derive(Clone, Copy)]
 struct Tally {
     cases: usize,
     differ: usize,

@@ -1,4 +1,6 @@
 // A text (`write_text_with_converter` of write/mod.rs), from its places in the block: its checks and conversions, and then its records.
+#![tactic(auto)]
+
 ghost use Rattle.std.specs.Prelude.{◌≡◌, ◌+◌, ◌*◌, ◌≤◌, length};
 ghost use Rattle.big_endian.specs.Big.{number_at};
 ghost use Rattle.conversion.specs.code.Fold.{Spare, run};
@@ -30,7 +32,7 @@ const FRONT_LENGTH: usize = 22;
 const BACK_LENGTH: usize = 16;
 
 // A refusal; or the values of the records that the sheet does not hold as they are, with the entry after them.
-#[derive(Drop)]
+#[derive(Clone, Copy)]
 pub enum TextValues {
     Refused {
         refusal: Refusal,

@@ -1,4 +1,6 @@
 // The transform of a text or a reference (`write_transformation_to_file` of write/mod.rs): its checks, and its records STRANS, MAG and ANGLE.
+#![tactic(auto)]
+
 ghost use Rattle.std.specs.Prelude.{◌≡◌, ◌+◌, ◌≤◌, length, ◌||◌};
 ghost use Rattle.big_endian.specs.Big.{bytes_of};
 ghost use Rattle.stream.specs.Records.{strans_bits};
@@ -10,7 +12,7 @@ use gds_format::{Encoding, Real8};
 use refusal::Refusal;
 
 // A real of the transform: refused, not written, or the pattern of its eight bytes.
-#[derive(Drop)]
+#[derive(Clone, Copy)]
 pub enum Real {
     Refused { refusal: Refusal },
     Absent,
@@ -18,7 +20,7 @@ pub enum Real {
 }
 
 // What is written: with a reflection, a magnification (`scaled`) or an angle (`turned`) a STRANS, and after it the two reals that are there.
-#[derive(Drop)]
+#[derive(Clone, Copy)]
 pub struct Strans {
     pub reflection: bool,
     pub scaled: bool,
@@ -27,7 +29,7 @@ pub struct Strans {
     pub angle: u64,
 }
 
-#[derive(Drop)]
+#[derive(Clone, Copy)]
 pub enum Transform {
     Refused { refusal: Refusal },
     Encoded { strans: Strans },

@@ -1,9 +1,11 @@
 // Coordinates with their units (units.rs).
+#![tactic(auto)]
+
 ghost use Rattle.std.specs.Prelude.{◌≡◌};
 ghost use Rattle.units.specs.Physical.{units_of, physical};
 
 // "a coordinate is an integer with its unit or a double with its unit"
-#[derive(Drop)]
+#[derive(Clone, Copy)]
 pub enum Unit {
     Integer { value: i32, units: f64 },
     Float { value: f64, units: f64 },

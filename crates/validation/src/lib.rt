@@ -1,4 +1,6 @@
 // The caller's first checks; points, layer and type; names and stamps (write/validation.rs, timestamp.rs).
+#![tactic(auto)]
+
 ghost use Rattle.std.specs.Prelude.{◌≡◌, ◌+◌, ◌*◌, ◌≤◌, leb, length};
 ghost use Rattle.cell.specs.Call.{checked_call};
 ghost use Rattle.cell.specs.Limits as Limits;
@@ -36,7 +38,7 @@ const STAMP_NUMBERS: usize = 12;
 const SECOND_STAMP: usize = 6;
 
 // A caller's first checks: a refusal, or the policy.
-#[derive(Drop)]
+#[derive(Clone, Copy)]
 pub enum Called {
     Refused { refusal: Refusal },
     Passed { rounding: GdsRoundingPolicy },
@@ -72,7 +74,7 @@ pub fn within(lo: usize, n: usize, hi: usize) -> bool
 // ---- before the points
 
 // The first check that fails, if one does.
-#[derive(Drop)]
+#[derive(Clone, Copy)]
 pub enum Check {
     Refused { refusal: Refusal },
     Passed,

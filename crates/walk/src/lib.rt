@@ -1,4 +1,6 @@
 // The cell from its 4 on: the head and the blocks in turn, measured, and then written.
+#![tactic(auto)]
+
 ghost use Rattle.std.specs.Prelude.{◌≡◌, ◌+◌, ◌≤◌, T, length};
 ghost use Rattle.big_endian.specs.Buffer.{WroteAt};
 ghost use Rattle.binary64.specs.Value.{zero64};
@@ -27,14 +29,14 @@ const BGNSTR_LENGTH: usize = 28;
 const ENDSTR_LENGTH: usize = 4;
 
 // The head measured: a refusal, or the bytes of BGNSTR and STRNAME.
-#[derive(Drop)]
+#[derive(Clone, Copy)]
 enum HeadMeasured {
     Refused { refusal: Refusal },
     Through { length: usize },
 }
 
 // All elements measured: the first refusal with its block; or how many bytes and entries there are, and the greatest error.
-#[derive(Drop)]
+#[derive(Clone, Copy)]
 enum Totals {
     Refused {
         refusal: Refusal,
@@ -48,7 +50,7 @@ enum Totals {
 }
 
 // Where what was written ends, in the output and in the report.
-#[derive(Drop)]
+#[derive(Clone, Copy)]
 pub struct Ends {
     pub out: usize,
     pub report: usize,

@@ -1,4 +1,6 @@
 // Writing a cell (`write_cell_with_options` of write/mod.rs): everything is decided in a measuring walk before the first byte is written.
+#![tactic(auto)]
+
 ghost use Rattle.std.specs.Prelude.{◌≤◌, length};
 ghost use Rattle.cell.specs.Limits.{max_sheet_length};
 ghost use Rattle.cell.specs.Answer.{values_of};

@@ -1,4 +1,6 @@
 // Writing a library (`write_library_with_options` of write/mod.rs): every cell is measured in turn before the first byte is written.
+#![tactic(auto)]
+
 ghost use Rattle.std.specs.Prelude.{◌≡◌, ◌-◌, ◌≤◌, T, length};
 ghost use Rattle.big_endian.specs.Big.{bytes_of};
 ghost use Rattle.binary64.specs.Value.{zero64};
