@@ -14,7 +14,7 @@ use Rattle.big_endian.specs.Big.{number_at}
 use Rattle.big_endian.proofs.PlaceLaws.{number-eight}
 use Rattle.units.specs.declared.Unit.{Unit}
 use Rattle.units.specs.declared.Unit.TheVariants as U
-use Rattle.parsing.specs.Parse.{Part, ill, part, IllFormed, ill_formed, pure, fail, follow, when, present, ◌>>=◌}
+use Rattle.parsing.specs.Parse.{Part, ill, part, IllFormed, ill_formed, pure, fail, follow, when, present}
 use Rattle.sheet.specs.Form.{integer_kind, double_kind, absent_kind, coordinate_of, coordinate, point, spacing_of, spacing}
 use Rattle.block_places.specs.code.Place.{double_at, unit_at, coordinate_at, point_at, spacing_at}
 use Rattle.forms.specs.code.Checks.{given, Checked}

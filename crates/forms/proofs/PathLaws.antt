@@ -1,17 +1,17 @@
 -- The form of a path: one law for each way out of its check. Assumes nothing.
 use mathlib.Core.Path.{◌≡◌, refl, ap, ◌∙◌}
-use mathlib.Core.Bool.{Bool, true, false, cond, not}
+use mathlib.Core.Bool.{Bool, true, false, cond}
 use mathlib.Core.Option.{none, some}
 use mathlib.Core.List.{List}
 use Prim.Native.Nat.{ℕ, ◌+◌, ◌*◌, ◌≤◌, ◌<◌}
 use native.Mathlib.Omega.{arith}
 use lib.Dec.{leb, eqb}
 use lib.ListN.{length, drop, length-drop}
-use borrow.Author.Tests.{ne_eqb, not-true, not-false}
+use borrow.Author.Tests.{ne_eqb}
 use Rattle.big_endian.specs.Big.{number_at}
 use Rattle.parsing.specs.Parse.{Part, ill, part, IllFormed, ill_formed, follow, times}
 use Rattle.sheet.specs.Form.{Form, num, counted, coordinate, point}
-use Rattle.sheet.specs.Element.{Path, path, path_kind, path_type_form, path_form, body_form}
+use Rattle.sheet.specs.Element.{path, path_kind, path_type_form, path_form, body_form}
 use Rattle.block_places.specs.declared.PathPlaces.{PathPlaces}
 use Rattle.block_places.specs.declared.BodyPlaces.TheVariants as B
 use Rattle.forms.specs.declared.BodyForm.TheVariants as F
@@ -46,11 +46,11 @@ on-checked : {A B : Type 0} (x : Part IllFormed ℕ A) (a : A) (s : List ℕ) (f
 on-checked x a s f true e = on _ _ e refl
 on-checked x a s f false e = off _ _ e
 
-cond_no : {A : Type 0} (t : Bool) (x y : A) → not t ≡ true → cond t x y ≡ y
-cond_no t x y e = ap (λ (u : Bool). cond u x y) (not-true t e)
+cond_no : {A : Type 0} (t : Bool) (x y : A) → t ≡ false → cond t x y ≡ y
+cond_no t x y e = ap (λ (u : Bool). cond u x y) e
 
-cond_yes : {A : Type 0} (t : Bool) (x y : A) → not t ≡ false → cond t x y ≡ x
-cond_yes t x y e = ap (λ (u : Bool). cond u x y) (not-false t e)
+cond_yes : {A : Type 0} (t : Bool) (x y : A) → t ≡ true → cond t x y ≡ x
+cond_yes t x y e = ap (λ (u : Bool). cond u x y) e
 
 module _ (b : List ℕ) where
   pub width-ill : coordinate (drop 6 b) ≡ ill ill_formed → LengthsChecked b false
@@ -87,11 +87,11 @@ module _ (b : List ℕ) where
 
     module _ (k : path_type_form (drop 5 b) ≡ part (path_type_of (number_at 1 b 5)) (drop 6 b)) where
       module _ {t : Bool} (l : LengthsChecked b t) where
-        pub path-lengths : not t ≡ true → BodyRead path_kind b F.Ill
+        pub path-lengths : t ≡ false → BodyRead path_kind b F.Ill
         unfolding path_form
         path-lengths e = path-ill (layer-type b _ (omega arith) (on _ _ k (l.is _ ∙ cond_no t _ _ e)))
 
-        module _ (there : not t ≡ false) (s : PathPlaces) (e : s ≡ path_places b) {r : Bool} (v : Checked (times s.points.count point) b 59 (points_from s.points.count b 59) (59 + 34 * s.points.count) r) where
+        module _ (there : t ≡ true) (s : PathPlaces) (e : s ≡ path_places b) {r : Bool} (v : Checked (times s.points.count point) b 59 (points_from s.points.count b 59) (59 + 34 * s.points.count) r) where
           path-by : Checked path_form b 1 (path_at b s) (59 + 34 * s.points.count) r
           unfolding path_form path_at path_places
           path-by =
@@ -102,10 +102,10 @@ module _ (b : List ℕ) where
                     ∙ rw e;
               }
 
-          pub path-points : not r ≡ true → BodyRead path_kind b F.Ill
+          pub path-points : r ≡ false → BodyRead path_kind b F.Ill
           path-points f = path-ill (failed path-by f)
 
-          pub path-is : not r ≡ false → BodyRead path_kind b (F.Body (B.Path s) (59 + 34 * s.points.count))
+          pub path-is : r ≡ true → BodyRead path_kind b (F.Body (B.Path s) (59 + 34 * s.points.count))
           unfolding body_form path_places
           path-is f =
               let within = sized-within (34 * s.points.count) (times s.points.count point) b 59 (sized-times 34 s.points.count point sized-point) h (checked v f) in

@@ -1,6 +1,6 @@
 -- The form of a polygon or a node: one law for each way out of its check. Assumes nothing.
 use mathlib.Core.Path.{◌≡◌, refl, ap, ◌∙◌}
-use mathlib.Core.Bool.{Bool, true, false, cond, not}
+use mathlib.Core.Bool.{Bool, true, false, cond}
 use mathlib.Core.List.{List}
 use Prim.Native.Nat.{ℕ, ◌+◌, ◌*◌, ◌≤◌, ◌<◌}
 use native.Mathlib.Omega.{arith}
@@ -41,10 +41,10 @@ module _ (b : List ℕ) where
     unfolding shape_form shape_at shape_places
     shape-by = record { is = layer-type b _ (omega arith) (then_is _ _ _ _ r (counted-at point b 5 s.points.count h (ap (λ (x : ShapePlaces). x.points.count) e) w.is)) ∙ rw e }
 
-    pub shape-points : (t : Bool) → not r ≡ true → BodyRead (kind t) b F.Ill
+    pub shape-points : (t : Bool) → r ≡ false → BodyRead (kind t) b F.Ill
     shape-points t f = shape-ill b t (failed shape-by f)
 
-    module _ (f : not r ≡ false) where
+    module _ (f : r ≡ true) where
       within : 7 + 34 * s.points.count ≤ length b
       within = sized-within (34 * s.points.count) (times s.points.count point) b 7 (sized-times 34 s.points.count point sized-point) h (checked w f)
 

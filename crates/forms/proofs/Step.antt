@@ -1,6 +1,6 @@
 -- The steps of a form at a place of a block: what each gives, and where it ends. Assumes nothing.
 use mathlib.Core.Path.{◌≡◌, refl, ap, ◌∙◌, subst}
-use mathlib.Core.Bool.{Bool, true, false, cond, not}
+use mathlib.Core.Bool.{Bool, true, false, cond}
 use mathlib.Core.Option.{none, some}
 use mathlib.Core.List.{List, [], ◌∷◌}
 use Prim.Native.Nat.{ℕ, ◌+◌, ◌≤◌, ◌<◌}
@@ -8,7 +8,7 @@ use native.Mathlib.Omega.{arith}
 use lib.Dec.{leb, eqb}
 use lib.ListN.{length, take, drop, length-drop, drop_of_length-le}
 use lib.Seq.{drop-drop}
-use borrow.Author.Tests.{le-leb, lt-leb, not-true, not-false}
+use borrow.Author.Tests.{le-leb, lt-leb}
 use Rattle.big_endian.specs.Big.{number, number_at}
 use Rattle.big_endian.proofs.PlaceLaws.{move}
 use Rattle.parsing.specs.Parse.{Part, ill, part, Parse, IllFormed, ill_formed, pure, follow, when, ended, ◌>>=◌}
@@ -68,11 +68,11 @@ string-long b at h l =
 -- ---- a check that answers yes or no, as the code asks it: `if !check { .. }`
 
 module _ {A : Type 0} {p : Form A} {b : List ℕ} {at : ℕ} {a : A} {to : ℕ} where
-  pub checked : {r : Bool} → Checked p b at a to r → not r ≡ false → p (drop at b) ≡ part a (drop to b)
-  checked {r} w e = w.is ∙ ap (λ (t : Bool). cond t (part a (drop to b)) (ill ill_formed)) (not-false r e)
+  pub checked : {r : Bool} → Checked p b at a to r → r ≡ true → p (drop at b) ≡ part a (drop to b)
+  checked w e = w.is ∙ ap (λ (t : Bool). cond t (part a (drop to b)) (ill ill_formed)) e
 
-  pub failed : {r : Bool} → Checked p b at a to r → not r ≡ true → p (drop at b) ≡ ill ill_formed
-  failed {r} w e = w.is ∙ ap (λ (t : Bool). cond t (part a (drop to b)) (ill ill_formed)) (not-true r e)
+  pub failed : {r : Bool} → Checked p b at a to r → r ≡ false → p (drop at b) ≡ ill ill_formed
+  failed w e = w.is ∙ ap (λ (t : Bool). cond t (part a (drop to b)) (ill ill_formed)) e
 
 -- what stands after a test
 pub when-is : {A : Type 0} (t : Bool) (a : A) (s : List ℕ) → when ill_formed t (pure a) s ≡ cond t (part a s) (ill ill_formed)
