@@ -24,12 +24,12 @@ need() {
 build_library() {
     [ -z "${LIBRARY:-}" ] || end 2 "LIBRARY is $LIBRARY, which is not there"
     need rt "the Rattle kit is needed to build $library"
-    echo "rt staticlib ravenvanity: proves and builds $library, which takes minutes the first time"
+    echo "tools/build.sh ravenvanity: proves and builds $library, which takes minutes the first time"
     status=0
-    (cd "$root" && rt staticlib ravenvanity) >"$target/staticlib.log" 2>&1 || status=$?
+    (cd "$root" && tools/build.sh ravenvanity) >"$target/staticlib.log" 2>&1 || status=$?
     [ "$status" -eq 0 ] && [ -f "$library" ] && return
     tail -n 20 "$target/staticlib.log" >&2
-    end 1 "rt staticlib ravenvanity did not build $library (status $status): $target/staticlib.log has all of what it said"
+    end 1 "tools/build.sh ravenvanity did not build $library (status $status): $target/staticlib.log has all of what it said"
 }
 
 compile_c() {

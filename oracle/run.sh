@@ -1,5 +1,5 @@
 #!/bin/sh
-# Builds the harness over gdsr's published code (GDSR_SRC) and the static library of `rt staticlib ravenvanity`, and compares:
+# Builds the harness over gdsr's published code (GDSR_SRC) and the static library of `tools/build.sh ravenvanity`, and compares:
 # the stored cases of tools/stored, or of the file that CASES names, 100,000 generated cells, 100,000 with any sines and cosines,
 # 20,000 libraries, the cells at limits that gdsr has not, and the longest sheets. Before, it runs the tests of src/side.rs.
 set -e

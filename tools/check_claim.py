@@ -19,7 +19,7 @@ ROOT = pathlib.Path(__file__).resolve().parent.parent
 CRATES = ROOT / "crates"
 PAGE = ROOT / "docs" / "CLAIM.md"
 
-USE = re.compile(r"^use Rattle·([a-z0-9_]+)(?:·specs)?\.specs\.([\w.-]+?)(?:\.\{[^}]*\}| as \w+)?$")
+USE = re.compile(r"^use Rattle\.([a-z0-9_]+)\.specs\.([\w.-]+?)(?:\.\{[^}]*\}| as \w+)?$")
 SOURCES = ("document 01", "document 02", "manual", "IEEE 754")
 # crates of tests and programs: what they define is data and layouts of their own
 TESTS = ("bench_arithmetic", "cases", "guards", "library_guards", "limit_guards", "option_guards", "structure", "test_answers", "test_arithmetic", "test_bytes", "test_conversions", "test_report", "test_vectors")
@@ -86,7 +86,8 @@ def uses(place):
     """The files and types that a file of definitions uses."""
     used = set()
     for line in specs(place).splitlines():
-        if not line.startswith("use Rattle·"):
+        crate = re.match(r"use Rattle\.([a-z0-9_]+)\.", line)
+        if not crate or not (CRATES / crate[1]).is_dir():  # a library of the kit
             continue
         match = USE.match(line)
         if not match:
@@ -173,9 +174,9 @@ def contract_faults(text):
         for function, crate in re.findall(r"`(\w+)` in ([a-z0-9_]+)", row[3]):
             text_of = code(crate)
             contract = re.search(rf"fn {function}\(.*?\n *\{{\n", text_of, re.S)
-            if not re.search(rf"^ghost use Rattle·{home}(?:·specs)?\.specs\.{file}\.\{{[^}}]*\b{claim}\b", text_of, re.M):
+            if not re.search(rf"^ghost use Rattle\.{home}\.specs\.{file}\.\{{[^}}]*\b{claim}\b", text_of, re.M):
                 yield f"{crate}/src does not have {claim} from {home}/specs/{file}"
-            if not contract or not re.search(rf"ensures \{{ λ r\. ⌜ {claim} ", contract[0]):
+            if not contract or not re.search(rf"ensures(?: \w+)? \{{ {claim} ", contract[0]):
                 yield f"{function} in {crate}/src does not promise {claim}"
             elif "requires" in contract[0]:
                 yield f"{function} in {crate}/src requires something of its caller"

@@ -1,7 +1,7 @@
 #!/usr/bin/env python3
 """Tries the command `ravenvanity` as its users call it. A convenience, outside the proof.
 
-    check_command.py CASES [CASES ...]      after `./run`, or `rt staticlib ravenvanity`
+    check_command.py CASES [CASES ...]      after `./run`, or `tools/build.sh ravenvanity`
 
 Wrong uses and bad files get one message and their status; files are written whole or not at all, and a refusal leaves
 them as they were; cells up to the writer's limit are written; texts and sheets, the program's input, streams, reports,

@@ -94,13 +94,13 @@ clean() {
     [ -z "$folder" ] || rm -rf "$folder" 2>/dev/null || { sleep 1 && rm -rf "$folder"; }
 }
 
-# rt names each crate a second time for the library, as unchanged.
+# tools/build.sh says of each of the two files that it is built.
 show_proved() {
-    sed -u -n -E '/\(unchanged/d; s/^rt: ([A-Za-z0-9_]+) proved \(.*/\1 proved/p' >&2
+    sed -u -n -E 's/^build.sh: (.* is built)$/\1/p' >&2
 }
 
 prove() { # TREE
-    cd "$1" && rt check "$program" && rt staticlib "$library"
+    cd "$1" && tools/build.sh "$program" "$library"
 }
 
 # Proves and builds a commit in a clone of its own, `tree`.
@@ -118,7 +118,7 @@ build() { # COMMIT
     status=$?
     group=''
     if [ "$status" -ne 0 ]; then
-        { grep -m 5 -E ': error|NOT PROVED|FAILED' "$log" || tail -n 5 "$log"; } | cut -c 1-300 >&2
+        { grep -m 5 -E ': error|not proved' "$log" || tail -n 5 "$log"; } | cut -c 1-300 >&2
         end 1 "this failed; all that rt printed is in target/sums.log"
     fi
 }

@@ -1,4 +1,4 @@
-"""The proved functions: target/staticlib/libravenvanity.a (`rt staticlib ravenvanity`), linked into a shared object and loaded.
+"""The proved functions: target/staticlib/libravenvanity.a (`tools/build.sh ravenvanity`), linked into a shared object and loaded.
 
 The answers are the library's: nothing is decided here. A C compiler links it, once for each build of the library.
 """
@@ -34,7 +34,7 @@ class Missing(Exception):
 def archive():
     """The static library's bytes."""
     if not os.path.exists(ARCHIVE):
-        raise Missing(f"{os.path.relpath(ARCHIVE)} is not there: `./run`, or `rt staticlib ravenvanity`, builds it")
+        raise Missing(f"{os.path.relpath(ARCHIVE)} is not there: `./run`, or `tools/build.sh ravenvanity`, builds it")
     with open(ARCHIVE, "rb") as f:
         return f.read()
 

@@ -169,7 +169,7 @@ pub fn with_sign(negative: bool, size: u64) -> i64
 }
 
 // To which whole number a double goes: the nearest with a half away from zero, the one below or the one above
-// (IEEE 754, 5.9: round_to_integral_ties_to_away, round_to_integral_toward_negative, round_to_integral_toward_positive).
+// (IEEE 754, 5.9: roundToIntegralTiesToAway, roundToIntegralTowardNegative, roundToIntegralTowardPositive).
 #[derive(Clone, Copy)]
 pub enum Direction {
     Nearest,

@@ -1,4 +1,4 @@
-// a * b + c with one rounding, IEEE 754's fused_multiply_add, worked out from the bits in words.
+// a * b + c with one rounding, IEEE 754's fusedMultiplyAdd, worked out from the bits in words.
 //
 // The digits of a, b and c are normalized. The product is taken in two words, the addend is moved up to be as long, and the two are aligned, added and rounded once.
 #![tactic(auto)]
