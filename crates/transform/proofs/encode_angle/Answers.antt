@@ -2,7 +2,6 @@
 use mathlib.Core.Path.{sym, ap, ◌∙◌}
 use lib.Ieee.{eq}
 use Rattle.transform.proofs.TransformLaws.{angle-absent, angle-there, zero_is}
-use borrow.Author.Rules.{rules}
 use Rattle.transform.proofs.encode_angle.Goals as goal
 
 pub returns-then-degrees : goal.returns-then-degrees

@@ -2,7 +2,6 @@
 use mathlib.Core.Path.{sym, ap, ◌∙◌}
 use lib.Ieee.{eq, le}
 use Rattle.transform.proofs.TransformLaws.{magnification-absent, magnification-refused, magnification-above, magnification-infinite, one-is, zero_is}
-use borrow.Author.Rules.{rules}
 use Rattle.transform.proofs.encode_magnification.Goals as goal
 use Rattle.transform.proofs.encode_magnification.Goals.{then-magnification-2+else-is_finite, else-magnification-2}
 

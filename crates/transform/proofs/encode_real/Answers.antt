@@ -1,6 +1,5 @@
 -- The encoder refuses, or gives a pattern. Assumes nothing.
 use Rattle.transform.proofs.TransformLaws.{real-refused, real-encoded}
-use borrow.Author.Rules.{rules}
 use Rattle.transform.proofs.encode_real.Goals as goal
 
 pub returns-in-Refused : goal.returns-in-Refused

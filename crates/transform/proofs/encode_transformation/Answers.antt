@@ -4,7 +4,6 @@ use mathlib.Core.Option.{none, some}
 use Rattle.big_endian.specs.Big.{bytes_of}
 use Rattle.transform.specs.code.Strans.{real_of, with_angle}
 use Rattle.transform.proofs.TransformLaws.{transform-refused, transform-on}
-use borrow.Author.Rules.{rules}
 use Rattle.transform.proofs.encode_transformation.Goals as goal
 
 pub returns-in-Refused : goal.returns-in-Refused

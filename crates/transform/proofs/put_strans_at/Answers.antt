@@ -2,7 +2,6 @@
 use mathlib.Core.Path.{sym, ◌∙◌}
 use native.Mathlib.Omega.{arith}
 use Rattle.transform.proofs.StransLaws.{length-there, strans-placed, strans-gone}
-use borrow.Author.Rules.{rules}
 use Rattle.transform.proofs.put_strans_at.Goals as goal
 
 pub put_word_at-a-requires : goal.put_word_at-a-requires

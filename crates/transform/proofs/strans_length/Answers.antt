@@ -1,9 +1,7 @@
 -- The lengths of the records that are there. Assumes nothing.
 use mathlib.Core.Path.{sym, ap₂, ◌∙◌}
 use Prim.Native.Nat.{ℕ, ◌+◌}
-use native.Mathlib.Omega.{arith}
-use Rattle.transform.proofs.StransLaws.{length-there, length_none, real-small}
-use borrow.Author.Rules.{rules}
+use Rattle.transform.proofs.StransLaws.{length-there, length_none}
 use Rattle.transform.proofs.strans_length.Goals as goal
 
 pub returns-then-is_there : goal.returns-then-is_there

@@ -6,7 +6,6 @@ use Rattle.records.specs.code.Bytes.{option_of}
 use Rattle.transform.specs.declared.Real.{Real}
 use Rattle.transform.specs.code.Strans.{real_of, with_angle}
 use Rattle.transform.proofs.TransformLaws.{angle-refused, angle-made}
-use borrow.Author.Rules.{rules}
 use Rattle.transform.proofs.with_angle.Goals as goal
 
 pub returns-in-Refused : goal.returns-in-Refused
