@@ -7,7 +7,6 @@ use Rattle.std.proofs.Common.{to_z, of_z}
 use Rattle.big_endian.specs.Big.{number_at}
 use Rattle.refusal.specs.Number.{number}
 use Rattle.units.specs.declared.Unit.{Unit}
-use Rattle.units.specs.declared.Unit.TheVariants as Unit
 use Rattle.conversion.specs.declared.CoordinateConverter.{CoordinateConverter}
 use Rattle.conversion.specs.declared.GdsRoundingPolicy.{GdsRoundingPolicy}
 use Rattle.conversion.specs.declared.GdsRoundingPolicy.TheVariants.{Nearest, Floor, Ceil, ErrorIfOffGrid}

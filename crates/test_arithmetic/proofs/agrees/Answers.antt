@@ -1,5 +1,5 @@
 -- `test_arithmetic::agrees` meets its contract. Assumes nothing.
-use Rattle.std.proofs.Common.{◌≡◌, ℕ, ◌+◌, ◌*◌, eqb, List, get_or, rules}
+use Rattle.std.proofs.Common.{◌≡◌, ℕ, ◌+◌, ◌*◌, eqb, List, get_or}
 use lib.Ieee.{Float}
 use Rattle.big_endian.specs.Big.{number_at}
 use Rattle.test_report.specs.Cases.{double_at}

@@ -1,7 +1,5 @@
 -- `test_arithmetic::differ` meets its contract. Assumes nothing.
-use Rattle.std.proofs.Common.{◌-◌, rules}
-use Rattle.test_report.proofs.DifferingLaws.{Told, told-start, told-turn, told-end}
-use Rattle.test_arithmetic.specs.Case.{agrees}
+use Rattle.test_report.proofs.DifferingLaws.{told-start, told-turn, told-end}
 use Rattle.test_arithmetic.proofs.differ.Goals as goal
 
 pub loop-k-init : goal.loop-k-init

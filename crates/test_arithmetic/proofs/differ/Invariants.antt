@@ -1,14 +1,11 @@
--- `test_arithmetic::differ` meets its contract. Assumes nothing.
-use Rattle.std.proofs.Common.{◌-◌, rules}
-use Rattle.test_report.proofs.DifferingLaws.{Told, told-start, told-turn, told-end}
+-- The cases below k are told. Assumes nothing.
+use Rattle.std.proofs.Common.{◌-◌}
+use Rattle.test_report.proofs.DifferingLaws.{Told}
 use Rattle.test_arithmetic.specs.Case.{agrees}
 use Rattle.test_arithmetic.proofs.differ.Given as goal
 
--- LOOPS [[["loop", "loop-k"], ["cases", "count", "found", "k"]]]
--- OLD invariant-loop
-abbrev invariant-loop : tie.invariant-loop
-invariant-loop cases count found₀ k₀ found k = Told (agrees cases) count k found
+abbrev pub invariant-loop-k : goal.invariant-loop-k
+invariant-loop-k l = Told (agrees l.cases) l.count l.k l.found
 
--- OLD decreases-loop
-abbrev decreases-loop : tie.decreases-loop
-decreases-loop cases count found₀ k₀ found k = count - k
+abbrev pub decreases-loop-k : goal.decreases-loop-k
+decreases-loop-k l = l.count - l.k

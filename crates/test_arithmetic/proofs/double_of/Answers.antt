@@ -1,7 +1,5 @@
 -- `test_arithmetic::double_of` meets its contract. Assumes nothing.
-use Rattle.std.proofs.Common.{sym, ap, ◌∙◌, w64, SFits, rules}
-use mir.ValLaws.{to_z-of_z}
-use lib.Ieee.{binary64, of_int}
+use Rattle.std.proofs.Common.{sym, ap, ◌∙◌}
 use Rattle.binary64.proofs.Bits.{zero_by_zero}
 use Rattle.test_arithmetic.specs.Case.{double_of}
 use Rattle.test_arithmetic.proofs.double_of.Goals as goal

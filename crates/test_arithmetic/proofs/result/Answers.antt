@@ -1,6 +1,6 @@
 -- `test_arithmetic::result` meets its contract. Assumes nothing.
-use Rattle.std.proofs.Common.{◌≡◌, ℕ, zero, suc, ◌≤◌, List, [], ◌∷◌, length, get_or, ℤ, sym, refl, ap, ◌∙◌, subst, zero-le, le_of_suc-le-suc, not-suc-le-zero, arith, rules}
-use lib.Ieee.{Float, binary64, toBits}
+use Rattle.std.proofs.Common.{◌≡◌, ℕ, zero, suc, ◌≤◌, List, [], ◌∷◌, length, get_or, ℤ, sym, refl, ap, ◌∙◌, subst, le_of_suc-le-suc, not-suc-le-zero, arith}
+use lib.Ieee.{Float, binary64, to_bits}
 use Rattle.test_arithmetic.specs.declared.Whole.{Whole}
 use Rattle.binary64.specs.Value.{round_away, floor_of, ceil_of}
 use Rattle.test_arithmetic.specs.Whole.{whole_of}
@@ -12,20 +12,17 @@ beyond [] k h = refl
 beyond (b ∷ s) zero h = absurd (not-suc-le-zero h)
 beyond (b ∷ s) (suc k) h = beyond s k (le_of_suc-le-suc h)
 
-up : {n k : ℕ} → n ≤ k → (k ≡ n → ⊥) → suc n ≤ k
-up {n} {k} h e = omega arith
-
 -- the arm of the number n
 at : (x y z : Float) (k n r : ℕ) → k ≡ n → r ≡ get_or (results x y z) n 0 → r ≡ get_or (results x y z) k 0
 at x y z k n r e h = subst (λ (i : ℕ). r ≡ get_or (results x y z) i 0) (sym e) h
 
 -- the three roundings
-rounded : (f : Float → ℤ) (x y : Float) (w : Whole) (r : ℕ) → w ≡ whole_of f x → y ≡ double_of x w → r ≡ toBits binary64 y → r ≡ toBits binary64 (double_of x (whole_of f x))
-rounded f x y w r a b c = c ∙ ap (toBits binary64) (b ∙ ap (double_of x) a)
+rounded : (f : Float → ℤ) (x y : Float) (w : Whole) (r : ℕ) → w ≡ whole_of f x → y ≡ double_of x w → r ≡ to_bits binary64 y → r ≡ to_bits binary64 (double_of x (whole_of f x))
+rounded f x y w r a b c = c ∙ ap (to_bits binary64) (b ∙ ap (double_of x) a)
 
 pub returns-in-0 : goal.returns-in-0
 unfolding results
-returns-in-0 c = at c.args.x c.args.y c.args.z c.args.function 0 _ c.in-0.is (c.to_bits.ensures ∙ ap (toBits binary64) c.mul_add.ensures)
+returns-in-0 c = at c.args.x c.args.y c.args.z c.args.function 0 _ c.in-0.is (c.to_bits.ensures ∙ ap (to_bits binary64) c.mul_add.ensures)
 
 pub returns-in-1 : goal.returns-in-1
 unfolding results
@@ -41,7 +38,7 @@ returns-in-3 c = at c.args.x c.args.y c.args.z c.args.function 3 _ c.in-3.is (ro
 
 pub returns-in-4 : goal.returns-in-4
 unfolding results
-returns-in-4 c = at c.args.x c.args.y c.args.z c.args.function 4 _ c.in-4.is (c.one_of_lem.ensures ∙ ap one_of c.within_one_ulp.ensures)
+returns-in-4 c = at c.args.x c.args.y c.args.z c.args.function 4 _ c.in-4.is (c.one_of.ensures ∙ ap one_of c.within_one_ulp.ensures)
 
 pub returns-in-5 : goal.returns-in-5
 unfolding results
@@ -57,4 +54,6 @@ returns-in-7 c = at c.args.x c.args.y c.args.z c.args.function 7 _ c.in-7.is (c.
 
 pub returns-in_default : goal.returns-in_default
 unfolding results
-returns-in_default c = let n = c.in_default.rest in sym (beyond (results c.args.x c.args.y c.args.z) c.args.function (up (up (up (up (up (up (up (up zero-le n.0.0.0.0.0.0.0.1) n.0.0.0.0.0.0.1) n.0.0.0.0.0.1) n.0.0.0.0.1) n.0.0.0.1) n.0.0.1) n.0.1) n.1))
+returns-in_default c =
+    let h : 8 ≤ c.args.function = omega arith in
+    sym (beyond (results c.args.x c.args.y c.args.z) c.args.function h)

@@ -1,5 +1,5 @@
 -- `test_arithmetic::to_whole` meets its contract: each way out is a law of `WholeLaws`. Assumes nothing.
-use Rattle.std.proofs.Common.{◌≡◌, true, T, sym, ◌∙◌, subst, lt_of_le_of_lt, lit<, w64, rules}
+use Rattle.std.proofs.Common.{◌≡◌, true, sym, ◌∙◌, lt_of_le_of_lt, lit<, w64}
 use lib.Ieee.Scale.{finite}
 use mir.ValLaws.{to_z-of_z}
 use Rattle.binary64.specs.code.Whole.{rounded}

@@ -1,0 +1,44 @@
+-- `points::put_rest` meets its contract. What is left to convert and write, run from the entry and the place reached, stays what the whole was, and succeeds; the measure is how many points are left. Assumes nothing.
+use mathlib.Core.Path.{◌≡◌, refl, sym, ◌∙◌}
+use mathlib.Core.Logic.{⊎_elim}
+use mathlib.Core.List.{List}
+use Prim.Native.Nat.{ℕ, ◌+◌, ◌*◌, ◌-◌, ◌≤◌}
+use native.Mathlib.Omega.{arith}
+use borrow.Author.Rules.{rules}
+use lib.ListN.{length}
+use lib.Ieee.{Float}
+use mir.Val.{SFits}
+use mir.Syntax.{w32}
+use Rattle.big_endian.proofs.BufferLaws.{length_at}
+use Rattle.conversion.specs.declared.Entry.{Entry}
+use Rattle.conversion.specs.declared.GdsRoundingPolicy.{GdsRoundingPolicy}
+use Rattle.conversion.specs.code.Fold.{run, Spare}
+use Rattle.conversion.specs.Points.{write_point, write_points}
+use Rattle.conversion.proofs.FoldLaws.{run-same}
+use Rattle.stream.specs.Records.{points_bytes}
+use Rattle.block_places.specs.code.Place.{point_at, points_from}
+use Rattle.steps.specs.code.Steps.{Succeeds}
+use Rattle.steps.proofs.StepLaws.{Outcome, stopped, putting, writes}
+use Rattle.coordinate.proofs.ValueLaws.{point-recorded, point-plain}
+use Rattle.points.proofs.PassingLaws.{rest-first, first-accepted}
+use Rattle.points.proofs.WalkLaws.{go_on, go-end, put-turn, put-end, Turn, point-put, never-pointed, first-succeeds}
+use Rattle.points.proofs.put_rest.Given as goal
+
+-- what is left
+abbrev pub left : GdsRoundingPolicy → Float → List ℕ → ℕ → ℕ → ℕ → Entry → ℕ → List ℕ → Outcome
+left policy d b n i at e to out = run stopped e (write_points policy d i (points_from (n - i) b at)) (putting points_bytes to out)
+
+pub record Inv (policy : GdsRoundingPolicy) (d : Float) (b : List ℕ) (from n k : ℕ) (out₀ : List ℕ) (start : ℕ) (e₀ : Entry) (out : List ℕ) (i at to : ℕ) (e : Entry) : Type 0 where
+  pub within : i ≤ n
+  pub place : at + 34 * k ≡ from + 34 * i
+  pub count : to + 8 * k ≡ start + 8 * i
+  pub accepted : Succeeds (write_points policy d i (points_from (n - i) b at))
+  pub long : length out ≡ length out₀
+  pub spare : Spare (2 * (n - i)) e
+  pub rest : left policy d b n k from e₀ start out₀ ≡ left policy d b n i at e to out
+
+abbrev pub invariant-loop-i : goal.invariant-loop-i
+invariant-loop-i l = Inv l.converter.policy l.converter.d l.b l.initial.at l.last l.from l.initial.out l.initial.to l.initial.e l.out l.i l.at l.to l.e
+
+abbrev pub decreases-loop-i : goal.decreases-loop-i
+decreases-loop-i l = l.last - l.i
