@@ -1,9 +1,9 @@
 /* The proved GDSII writer of cells and libraries, lengths within bounds, and the pitch survey: document 01 has the cell
  * sheet, the refusals and the report entry, document 02 the library sheet, the sign of an entry's error, boxes, flags and plex
- * numbers, the manual's limits of text types and properties, measuring apart from writing, the bounds and the survey (its
- * requests 1, 2, 3, 5, 6, 7, 11 and 12). docs/FORMAT.md has both sheets, what is written and the report entries byte by byte.
- * ravenvanity_sheet.h makes sheets, ravenvanity_write.h takes the memory for what is written, and ravenvanity_report.h reads
- * reports and tells refusals in words; none of the three is proved.
+ * numbers, the manual's limits of text types and properties, the bounds and the survey (its requests 1, 2, 3, 5, 6, 11 and 12).
+ * docs/FORMAT.md has both sheets, what is written and the report entries byte by byte. ravenvanity_sheet.h makes sheets,
+ * ravenvanity_write.h takes the memory for what is written, and ravenvanity_report.h reads reports and tells refusals in words;
+ * none of the three is proved.
  *
  * No pointer may be NULL, not even with length 0; the sheet, the two buffers and the answers must not overlap.
  * Nothing else is asked of a caller: every sheet, number and length has an answer. Nothing is kept between calls, no
@@ -18,16 +18,6 @@
  *     accepted: *cell = 0 and *block = 0, *length and *entries of the file and the report, *greatest error (0 if none)
  *     refused:  *cell, from 0, and *block in its sheet, or RAVENVANITY_NO_CELL and 0 outside a cell; the others are 0
  * An entry's error has a sign, the greatest error has none: it is the largest magnitude among the entries' errors.
- *
- * Measuring and writing agree, of the same policy, d and sheet, whatever they are:
- *     measuring never answers 21 or 22;
- *     where measuring refuses, writing answers the same, whatever the two buffers, also of length 0;
- *     where measuring accepts with *length and *entries, writing answers 21 exactly where out_length < *length; else 22 exactly
- *     where report_length < *entries * RAVENVANITY_ENTRY_LENGTH, of a library RAVENVANITY_LIBRARY_ENTRY_LENGTH; else exactly
- *     what was measured. Without entries a report of length 0 will do.
- * Every refusal leaves all bytes of both buffers as they were. This is part of the proved contracts of the four functions:
- * early of MeasuresCell and MeasuresLibrary; agrees, output and entries of WritesCell and WritesLibrary; in
- * crates/write_cell/specs/Writer.antt and crates/write_library/specs/Writer.antt.
  */
 #ifndef RAVENVANITY_H
 #define RAVENVANITY_H
@@ -99,22 +89,22 @@ enum ravenvanity_kind {
 #define RAVENVANITY_WITH_FLAGS 16
 #define RAVENVANITY_WITH_PLEX 32
 
-/* What writing a cell takes, or its refusal: "Measuring and writing agree", above. */
+/* What writing takes: a report of *entries * RAVENVANITY_ENTRY_LENGTH bytes and an output of *length are enough. */
 uint8_t ravenvanity_measure_cell(const uint8_t *sheet, size_t sheet_length,
                                  size_t *block, size_t *length, size_t *entries, double *greatest,
                                  uint8_t policy, double d);
 
-/* Writes the structure to the start of out and the entries to the start of report; the bytes after them stay. Above stands
- * when 21 and 22 come, and what a refusal leaves. */
+/* Writes the structure to the start of out and the entries to the start of report; the bytes after them stay, and
+ * where the cell is refused all bytes of both. 21: out is too short; 22: report is too short. */
 uint8_t ravenvanity_write_cell(const uint8_t *sheet, size_t sheet_length,
                                uint8_t *out, size_t out_length,
                                uint8_t *report, size_t report_length,
                                size_t *block, size_t *length, size_t *entries, double *greatest,
                                uint8_t policy, double d);
 
-/* What writing a library takes, or its refusal, as of a cell. A library sheet has the pairs of a cell sheet; its block 0 holds
- * the name, the user unit and the stamps, and every further block is a cell sheet, in the order of the structures. Names may
- * repeat. Refusals, in this order:
+/* What writing a library takes: a report of *entries * RAVENVANITY_LIBRARY_ENTRY_LENGTH bytes and an output of *length are
+ * enough. A library sheet has the pairs of a cell sheet; its block 0 holds the name, the user unit and the stamps, and
+ * every further block is a cell sheet, in the order of the structures. Names may repeat. Refusals, in this order:
  *     1  policy above 3                               2  d not finite and positive
  *     3  sheet over RAVENVANITY_MAX_SHEET bytes      23  pairs or block 0 ill-formed
  *     6  the library's stamps                        24  user unit not finite and positive, or it or d not encodable
@@ -126,7 +116,8 @@ uint8_t ravenvanity_measure_library(const uint8_t *sheet, size_t sheet_length,
                                     uint8_t policy, double d);
 
 /* Writes the whole file, from HEADER to ENDLIB, to the start of out and the entries to the start of report, each of them
- * a cell's number in 4 bytes and the cell's own entry; the rest as of a cell. */
+ * a cell's number in 4 bytes and the cell's own entry; the bytes after them stay, and where the library is refused all
+ * bytes of both. After every cell, 21: out is too short; then 22: report is too short. */
 uint8_t ravenvanity_write_library(const uint8_t *sheet, size_t sheet_length,
                                   uint8_t *out, size_t out_length,
                                   uint8_t *report, size_t report_length,

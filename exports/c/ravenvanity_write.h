@@ -62,7 +62,7 @@ static inline bool ravenvanity_take_room(struct ravenvanity_written *written, si
 }
 
 /* ---- writing. policy: one of enum ravenvanity_policy. d: the database unit. What was measured is enough: where writing is
- * tried its number is 0, and its other answers are those that were measured, by agrees of WritesCell and WritesLibrary */
+ * tried its number is 0, by writing-agrees in crates/cell/proofs and crates/library/proofs */
 
 static inline struct ravenvanity_written ravenvanity_write_new_cell(const uint8_t *sheet, size_t sheet_length, uint8_t policy,
                                                                     double d) {

@@ -1,22 +1,9 @@
 //! The proved GDSII writer of cells and libraries, lengths within bounds and the pitch survey, for Rust. Document 01 has the
 //! cell sheet, the refusals and the report entry, document 02 the library sheet, the sign of an entry's error, boxes, flags and
-//! plex numbers, the manual's limits of text types and properties, measuring apart from writing, the bounds and the survey (its
-//! requests 1, 2, 3, 5, 6, 7, 11 and 12). docs/FORMAT.md has both sheets, what is written and the report entries byte by byte.
-//! `ravenvanity_sheet.rs` makes sheets, and `ravenvanity_report.rs` reads reports and tells refusals in words; neither is proved.
-//! The borrow checker sees to what the C interface asks: no null pointer and no overlap.
-//!
-//! # Measuring and writing agree
-//!
-//! Of the same policy, `d` and sheet, whatever they are:
-//! - measuring never answers 21 or 22;
-//! - where measuring refuses, writing answers the same, whatever the two buffers, also where they are empty;
-//! - where measuring accepts with `length` and `entries`, writing answers 21 exactly where `out` has fewer bytes than `length`;
-//!   else 22 exactly where `report` has fewer than `entries * ENTRY_LENGTH`, of a library `entries * LIBRARY_ENTRY_LENGTH`; else
-//!   exactly what was measured. Without entries an empty report will do.
-//!
-//! Every refusal leaves all bytes of both buffers as they were. This is part of the proved contracts of the four functions:
-//! `early` of `MeasuresCell` and `MeasuresLibrary`; `agrees`, `output` and `entries` of `WritesCell` and `WritesLibrary`; in
-//! crates/write_cell/specs/Writer.antt and crates/write_library/specs/Writer.antt.
+//! plex numbers, the manual's limits of text types and properties, the bounds and the survey (its requests 1, 2, 3, 5, 6, 11 and
+//! 12). docs/FORMAT.md has both sheets, what is written and the report entries byte by byte. `ravenvanity_sheet.rs` makes sheets,
+//! and `ravenvanity_report.rs` reads reports and tells refusals in words; neither is proved. The borrow checker sees to what the
+//! C interface asks: no null pointer and no overlap.
 #![allow(dead_code)] // a program uses what it needs of this
 
 /// The bytes of one report entry.
@@ -196,7 +183,7 @@ fn answer(number: u8, block: usize, accepted: Accepted) -> Result<Accepted, Refu
     if number == 0 { Ok(accepted) } else { Err(Refusal { number, block }) }
 }
 
-/// What writing the sheet's cell takes, or its refusal: "Measuring and writing agree", at the top.
+/// What writing the sheet's cell takes.
 pub fn measure_cell(policy: impl Into<u8>, d: f64, sheet: &[u8]) -> Result<Accepted, Refusal> {
     let policy = policy.into();
     let mut block = 0;
@@ -217,8 +204,8 @@ pub fn measure_cell(policy: impl Into<u8>, d: f64, sheet: &[u8]) -> Result<Accep
     answer(number, block, to)
 }
 
-/// Writes the structure to the start of `out` and the entries to the start of `report`; the bytes after them stay. At the top
-/// stands when 21 and 22 come, and what a refusal leaves.
+/// Writes the structure to the start of `out` and the entries to the start of `report`; the bytes after them stay, and
+/// in a refusal all bytes of both.
 pub fn write_cell(policy: impl Into<u8>, d: f64, sheet: &[u8], out: &mut [u8], report: &mut [u8]) -> Result<Accepted, Refusal> {
     let policy = policy.into();
     let mut block = 0;
@@ -243,8 +230,7 @@ pub fn write_cell(policy: impl Into<u8>, d: f64, sheet: &[u8], out: &mut [u8], r
     answer(number, block, to)
 }
 
-/// Measures, takes the memory, and writes: the structure, the entries and what they took. Where measuring accepts, so does
-/// writing.
+/// Measures, takes the memory, and writes: the structure, the entries and what they took.
 pub fn written(policy: impl Into<u8>, d: f64, sheet: &[u8]) -> Result<(Vec<u8>, Vec<u8>, Accepted), Refusal> {
     let policy = policy.into();
     let accepted = measure_cell(policy, d, sheet)?;
@@ -260,8 +246,8 @@ fn library_answer(number: u8, place: [usize; 2], accepted: Accepted) -> Result<A
     if number == 0 { Ok(accepted) } else { Err(LibraryRefusal { number, cell, block }) }
 }
 
-/// What writing the library takes, or its refusal, as of a cell. Block 0 of its sheet holds the name, the user unit and the
-/// stamps, every further block is a cell sheet.
+/// What writing the library takes. Block 0 of its sheet holds the name, the user unit and the stamps, every further block is
+/// a cell sheet.
 pub fn measure_library(policy: impl Into<u8>, d: f64, sheet: &[u8]) -> Result<Accepted, LibraryRefusal> {
     let policy = policy.into();
     let (mut cell, mut block) = (0, 0);
@@ -283,8 +269,8 @@ pub fn measure_library(policy: impl Into<u8>, d: f64, sheet: &[u8]) -> Result<Ac
     library_answer(number, [cell, block], to)
 }
 
-/// Writes the file, from HEADER to ENDLIB, to the start of `out` and the entries to the start of `report`; the rest as of a
-/// cell.
+/// Writes the file, from HEADER to ENDLIB, to the start of `out` and the entries to the start of `report`; the bytes after them
+/// stay, and in a refusal all bytes of both.
 pub fn write_library(
     policy: impl Into<u8>,
     d: f64,
@@ -316,7 +302,7 @@ pub fn write_library(
     library_answer(number, [cell, block], to)
 }
 
-/// Measures, takes the memory, and writes: the file, the entries and what they took; as of a cell.
+/// Measures, takes the memory, and writes: the file, the entries and what they took.
 pub fn library_written(policy: impl Into<u8>, d: f64, sheet: &[u8]) -> Result<(Vec<u8>, Vec<u8>, Accepted), LibraryRefusal> {
     let policy = policy.into();
     let accepted = measure_library(policy, d, sheet)?;

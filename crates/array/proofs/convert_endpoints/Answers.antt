@@ -35,21 +35,18 @@ returns-in-Refused-convert_endpoint c =
 
 pub returns-in-At-convert_endpoint : goal.returns-in-At-convert_endpoint
 returns-in-At-convert_endpoint c =
-    let origin-fits : Fits c.args.origin.x c.args.origin.y = let g = c.well_formed.1.1.0 in (search rules, search rules) in
-    let column_fits : Fits c.args.column.x c.args.column.y = let g = c.well_formed.1.1.1.0 in (search rules, search rules) in
-    let row_fits : Fits c.args.row.x c.args.row.y = let g = c.well_formed.1.1.1.1.0 in (search rules, search rules) in
-    let end_fits : Fits c.in-At.x1 c.in-At.y1 = let g = c.known_told-in-At-1.given in (search rules, search rules) in
-    let end-fits2 : Fits c.in-At-convert_endpoint.x2 c.in-At-convert_endpoint.y2 = let g = c.known_told-in-At-convert_endpoint-2-1.given in (search rules, search rules) in
     let a = c.args in
     let r = c.convert_endpoint in
     let o = a.origin in
     let u = a.column in
     let v = a.row in
     let t = c.convert_endpoint-in-At in
-    let fo = origin-fits in
-    let fu = column_fits in
-    let fv = row_fits in
-    let f1 = end_fits in
-    let f2 = end-fits2 in
-    corners-made a.converter.policy a.converter.d a.s.columns a.s.rows (physical_part o) (database_part o) (physical_part u) (physical_part v) (database_part u) (database_part v) a.entry r.result r.ensures c.in-At.x1 c.in-At.y1 c.in-At.e c.in-At.is t.result t.ensures c.in-At-convert_endpoint.x2 c.in-At-convert_endpoint.y2 c.in-At-convert_endpoint.more c.in-At-convert_endpoint.is _
-    (read_back o.x o.y u.x u.y v.x v.y c.in-At.x1 c.in-At.y1 c.in-At-convert_endpoint.x2 c.in-At-convert_endpoint.y2 fo.0 fo.1 fu.0 fu.1 fv.0 fv.1 f1.0 f1.1 f2.0 f2.1)
+    let g = c.in-At in
+    let k = c.in-At-convert_endpoint in
+    let fo : Fits o.x o.y = (search rules, search rules) in
+    let fu : Fits u.x u.y = (search rules, search rules) in
+    let fv : Fits v.x v.y = (search rules, search rules) in
+    let f1 : Fits g.x1 g.y1 = (search rules, search rules) in
+    let f2 : Fits k.x2 k.y2 = (search rules, search rules) in
+    corners-made a.converter.policy a.converter.d a.s.columns a.s.rows (physical_part o) (database_part o) (physical_part u) (physical_part v) (database_part u) (database_part v) a.entry r.result r.ensures g.x1 g.y1 g.e g.is t.result t.ensures k.x2 k.y2 k.more k.is _
+    (read_back o.x o.y u.x u.y v.x v.y g.x1 g.y1 k.x2 k.y2 fo.0 fo.1 fu.0 fu.1 fv.0 fv.1 f1.0 f1.1 f2.0 f2.1)

@@ -11,22 +11,24 @@ use Rattle.array.proofs.physical_point.Goals as goal
 pub returns-in-Refused : goal.returns-in-Refused
 unfolding point_at
 returns-in-Refused c =
-    let x-is : physical_of c.physical_value.result ≡ physical_value (unit_at c.args.b.now c.args.at) = c.physical_value.ensures ∙ ap physical_value c.unit_at.ensures in
     let a = c.args in
+    let x-is : physical_of c.physical_value.result ≡ physical_value (unit_at a.b.now a.at) = c.physical_value.ensures ∙ ap physical_value c.unit_at.ensures in
     physical-x-refused (point_at a.b.now a.at) c.physical_value.result x-is c.in-Refused.refusal c.in-Refused.is
 
 pub returns-in-Refused-physical_value : goal.returns-in-Refused-physical_value
 unfolding point_at
 returns-in-Refused-physical_value c =
     let a = c.args in
-    let v = c.before.before.before.before.before.before.before.before in
-    let w = c.before.before.before in
-    physical-y-refused (point_at a.b.now a.at) v.physical-value.result (x-is v) c.in-At.x c.in-At.is w.physical-value2.result (y-is w) c.in-Refused-physical_value.refusal2 c.in-Refused-physical_value.is
+    let x-is : physical_of c.physical_value.result ≡ physical_value (unit_at a.b.now a.at) = c.physical_value.ensures ∙ ap physical_value c.unit_at.ensures in
+    let y-is : physical_of c.physical_value-in-At.result ≡ physical_value (unit_at a.b.now (a.at + coordinate_length)) =
+        c.physical_value-in-At.ensures ∙ ap physical_value c.unit_at-in-At.ensures in
+    physical-y-refused (point_at a.b.now a.at) c.physical_value.result x-is c.in-At.x c.in-At.is c.physical_value-in-At.result y-is c.in-Refused-physical_value.refusal2 c.in-Refused-physical_value.is
 
 pub returns-in-At-physical_value : goal.returns-in-At-physical_value
 unfolding point_at
 returns-in-At-physical_value c =
     let a = c.args in
-    let v = c.before.before.before.before.before.before.before.before in
-    let w = c.before.before.before in
-    physical-both (point_at a.b.now a.at) v.physical-value.result (x-is v) c.in-At.x c.in-At.is w.physical-value2.result (y-is w) c.in-At-physical_value.y c.in-At-physical_value.is
+    let x-is : physical_of c.physical_value.result ≡ physical_value (unit_at a.b.now a.at) = c.physical_value.ensures ∙ ap physical_value c.unit_at.ensures in
+    let y-is : physical_of c.physical_value-in-At.result ≡ physical_value (unit_at a.b.now (a.at + coordinate_length)) =
+        c.physical_value-in-At.ensures ∙ ap physical_value c.unit_at-in-At.ensures in
+    physical-both (point_at a.b.now a.at) c.physical_value.result x-is c.in-At.x c.in-At.is c.physical_value-in-At.result y-is c.in-At-physical_value.y c.in-At-physical_value.is

@@ -1,14 +1,9 @@
 -- `points::count_passing` meets its contract: the points so far pass; the measure is how many are left. Assumes nothing.
-use mathlib.Core.Path.{◌≡◌, sym, subst}
+use mathlib.Core.Path.{◌≡◌}
 use mathlib.Core.List.{List}
 use Prim.Native.Nat.{ℕ, ◌+◌, ◌*◌, ◌-◌, ◌≤◌}
-use lib.Dec.{T}
 use lib.Ieee.{Float}
-use borrow.Author.Rules.{rules}
-use borrow.Author.Tests.{not-false}
-use Rattle.binary64.proofs.Bits.{same-no-nan}
 use Rattle.points.specs.code.Integers.{AllPass}
-use Rattle.points.proofs.IntegerLaws.{bits-pass, pass-more}
 use Rattle.points.proofs.count_passing.Given as goal
 
 pub record Inv (d : Float) (b : List ℕ) (from n i at : ℕ) : Type 0 where

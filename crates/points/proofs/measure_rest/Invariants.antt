@@ -1,29 +1,18 @@
 -- `points::measure_rest` meets its contract. What is left to convert, run from the entry reached, stays what the whole was; the measure is how many points are left. Assumes nothing.
-use mathlib.Core.Path.{◌≡◌, refl, sym, ap, ap₂, ◌∙◌}
-use mathlib.Core.Logic.{⊎_elim}
+use mathlib.Core.Path.{◌≡◌}
 use mathlib.Core.List.{List}
 use Prim.Native.Nat.{ℕ, ◌+◌, ◌*◌, ◌-◌, ◌≤◌}
-use native.Mathlib.Omega.{arith}
-use borrow.Author.Rules.{rules}
 use lib.IntN.{ℤ}
 use lib.Ieee.{Float}
-use mir.Val.{SFits, to_z}
-use mir.Syntax.{w32}
-use mir.ValLaws.{to_z-of_z}
 use Rattle.units.specs.Point.{Point}
 use Rattle.conversion.specs.declared.Entry.{Entry}
 use Rattle.conversion.specs.declared.GdsRoundingPolicy.{GdsRoundingPolicy}
 use Rattle.conversion.specs.code.Fold.{run, Spare}
-use Rattle.conversion.specs.Points.{write_point, write_points}
-use Rattle.block_places.specs.code.Place.{point_at, points_from}
-use Rattle.coordinate.specs.declared.Pointed.TheVariants as P
-use Rattle.coordinate.specs.code.Coordinate.{GivesPoint}
-use Rattle.coordinate.proofs.ValueLaws.{point-recorded, point-plain, point-read}
+use Rattle.conversion.specs.Points.{write_points}
+use Rattle.block_places.specs.code.Place.{points_from}
 use Rattle.points.specs.declared.Walked.{Walked}
 use Rattle.points.specs.declared.Walked.TheVariants as W
 use Rattle.points.specs.code.Walk.{through}
-use Rattle.points.proofs.PassingLaws.{rest-first}
-use Rattle.points.proofs.WalkLaws.{point_of, point-back, go_on, go-stop, go-end}
 use Rattle.points.specs.declared.First.{First}
 use Rattle.points.proofs.measure_rest.Given as goal
 

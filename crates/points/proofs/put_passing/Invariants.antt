@@ -1,23 +1,12 @@
 -- `points::put_passing` meets its contract: the points so far pass, and their bytes stand in the output; the measure is how many are left. Assumes nothing.
 use lib.ListN.{length}
-use mathlib.Core.Path.{◌≡◌, refl, sym, subst, ◌∙◌}
+use mathlib.Core.Path.{◌≡◌}
 use mathlib.Core.List.{List}
 use Prim.Native.Nat.{ℕ, ◌+◌, ◌*◌, ◌-◌, ◌≤◌}
-use native.Mathlib.Omega.{arith}
-use lib.Dec.{T}
 use lib.Ieee.{Float}
-use mir.Val.{SFits}
-use mir.Syntax.{w32}
-use mir.ValLaws.{to_z-of_z}
-use borrow.Author.Rules.{rules}
-use borrow.Author.Tests.{not-false}
 use Rattle.big_endian.specs.Buffer.{WroteAt}
-use Rattle.big_endian.proofs.BufferLaws.{length_at}
-use Rattle.binary64.proofs.Bits.{same-no-nan}
 use Rattle.stream.specs.Records.{points_bytes}
-use Rattle.coordinate.proofs.ValueLaws.{same_point}
 use Rattle.points.specs.code.Integers.{integers_from, AllPass}
-use Rattle.points.proofs.IntegerLaws.{bits-pass, pass-more, put-more, none-put}
 use Rattle.points.proofs.put_passing.Given as goal
 
 pub record Inv (d : Float) (b : List ℕ) (from n : ℕ) (out₀ : List ℕ) (start : ℕ) (out : List ℕ) (i at to : ℕ) : Type 0 where

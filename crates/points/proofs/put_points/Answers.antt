@@ -2,7 +2,6 @@
 use native.Mathlib.Omega.{arith}
 use Rattle.big_endian.proofs.BufferLaws.{length_at}
 use Rattle.points.proofs.PassingLaws.{pass-put, rest-succeeds}
-use borrow.Author.Rules.{rules}
 use Rattle.points.proofs.put_points.Goals as goal
 
 pub put_rest-requires : goal.put_rest-requires

@@ -1,28 +1,19 @@
 -- `points::put_rest` meets its contract. What is left to convert and write, run from the entry and the place reached, stays what the whole was, and succeeds; the measure is how many points are left. Assumes nothing.
-use mathlib.Core.Path.{◌≡◌, refl, sym, ◌∙◌}
-use mathlib.Core.Logic.{⊎_elim}
-use mathlib.Core.List.{List}
-use Prim.Native.Nat.{ℕ, ◌+◌, ◌*◌, ◌-◌, ◌≤◌}
+use mathlib.Core.Path.{refl, ◌∙◌}
+use Prim.Native.Nat.{◌+◌, ◌-◌, ◌≤◌}
 use native.Mathlib.Omega.{arith}
 use borrow.Author.Rules.{rules}
-use lib.ListN.{length}
-use lib.Ieee.{Float}
 use mir.Val.{SFits}
 use mir.Syntax.{w32}
 use Rattle.big_endian.proofs.BufferLaws.{length_at}
-use Rattle.conversion.specs.declared.Entry.{Entry}
-use Rattle.conversion.specs.declared.GdsRoundingPolicy.{GdsRoundingPolicy}
-use Rattle.conversion.specs.code.Fold.{run, Spare}
 use Rattle.conversion.specs.Points.{write_point, write_points}
 use Rattle.conversion.proofs.FoldLaws.{run-same}
 use Rattle.stream.specs.Records.{points_bytes}
 use Rattle.block_places.specs.code.Place.{point_at, points_from}
-use Rattle.steps.specs.code.Steps.{Succeeds}
-use Rattle.steps.proofs.StepLaws.{Outcome, stopped, putting, writes}
+use Rattle.steps.proofs.StepLaws.{stopped, putting, writes}
 use Rattle.coordinate.proofs.ValueLaws.{point-recorded, point-plain}
 use Rattle.points.proofs.PassingLaws.{rest-first, first-accepted}
 use Rattle.points.proofs.WalkLaws.{go_on, go-end, put-turn, put-end, Turn, point-put, never-pointed, first-succeeds}
-use Rattle.points.proofs.put_rest.Invariants.{left, Inv}
 use Rattle.points.proofs.put_rest.Goals.{in-At, in-No+in-At-record_point}
 use Rattle.points.proofs.put_rest.Goals as goal
 
@@ -70,20 +61,20 @@ loop-i-preserved c =
     let x = c.convert_at-cx in
     let y = c.convert_at-cy in
     let t : Turn l.e (write_point a.converter.policy a.converter.d 0 l.i (point_at a.b.now l.at)) l.to l.out m.to m.out m.e =
-        elim m.branch [
-        | in-At w ↦
-            let fx : SFits w32 w.in-At.x = search rules in
-            let fy : SFits w32 w.in-At.y = search rules in
-            point-put (point-plain a.converter.policy a.converter.d (point_at a.b.now l.at) x.result y.result x.ensures y.ensures 0 l.i l.e w.in-At.x w.in-At.y w.in-At.ensures)
-            w.in-At.x w.in-At.y l.e refl fx fy w.put_point-to.ensures w.out-is w.to-is w.e-is
-        | in-No+in-At-record_point w ↦
-            let r = w.record_point in
-            let g = w.in-At-record_point in
-            let fx : SFits w32 g.x = search rules in
-            let fy : SFits w32 g.y = search rules in
-            point-put (point-recorded a.converter.policy a.converter.d (point_at a.b.now l.at) x.result y.result x.ensures y.ensures 0 l.i l.e r.result r.ensures)
-            g.x g.y g.more g.is fx fy w.put_point-to-in-At-record_point.ensures w.out-is w.to-is w.e-is
-        ] in
+    elim m.branch [
+      | in-At w ↦
+          let fx : SFits w32 w.in-At.x = search rules in
+          let fy : SFits w32 w.in-At.y = search rules in
+          point-put (point-plain a.converter.policy a.converter.d (point_at a.b.now l.at) x.result y.result x.ensures y.ensures 0 l.i l.e w.in-At.x w.in-At.y w.in-At.ensures)
+          w.in-At.x w.in-At.y l.e refl fx fy w.put_point-to.ensures w.out-is w.to-is w.e-is
+      | in-No+in-At-record_point w ↦
+          let r = w.record_point in
+          let g = w.in-At-record_point in
+          let fx : SFits w32 g.x = search rules in
+          let fy : SFits w32 g.y = search rules in
+          point-put (point-recorded a.converter.policy a.converter.d (point_at a.b.now l.at) x.result y.result x.ensures y.ensures 0 l.i l.e r.result r.ensures)
+          g.x g.y g.more g.is fx fy w.put_point-to-in-At-record_point.ensures w.out-is w.to-is w.e-is
+    ] in
     let k : m.e.count ≤ l.e.count + 2 = t.converts.grown in
     let w = t.wrote in
     let j = w.count in

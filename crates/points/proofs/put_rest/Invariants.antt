@@ -1,27 +1,17 @@
 -- `points::put_rest` meets its contract. What is left to convert and write, run from the entry and the place reached, stays what the whole was, and succeeds; the measure is how many points are left. Assumes nothing.
-use mathlib.Core.Path.{◌≡◌, refl, sym, ◌∙◌}
-use mathlib.Core.Logic.{⊎_elim}
+use mathlib.Core.Path.{◌≡◌}
 use mathlib.Core.List.{List}
 use Prim.Native.Nat.{ℕ, ◌+◌, ◌*◌, ◌-◌, ◌≤◌}
-use native.Mathlib.Omega.{arith}
-use borrow.Author.Rules.{rules}
 use lib.ListN.{length}
 use lib.Ieee.{Float}
-use mir.Val.{SFits}
-use mir.Syntax.{w32}
-use Rattle.big_endian.proofs.BufferLaws.{length_at}
 use Rattle.conversion.specs.declared.Entry.{Entry}
 use Rattle.conversion.specs.declared.GdsRoundingPolicy.{GdsRoundingPolicy}
 use Rattle.conversion.specs.code.Fold.{run, Spare}
-use Rattle.conversion.specs.Points.{write_point, write_points}
-use Rattle.conversion.proofs.FoldLaws.{run-same}
+use Rattle.conversion.specs.Points.{write_points}
 use Rattle.stream.specs.Records.{points_bytes}
-use Rattle.block_places.specs.code.Place.{point_at, points_from}
+use Rattle.block_places.specs.code.Place.{points_from}
 use Rattle.steps.specs.code.Steps.{Succeeds}
-use Rattle.steps.proofs.StepLaws.{Outcome, stopped, putting, writes}
-use Rattle.coordinate.proofs.ValueLaws.{point-recorded, point-plain}
-use Rattle.points.proofs.PassingLaws.{rest-first, first-accepted}
-use Rattle.points.proofs.WalkLaws.{go_on, go-end, put-turn, put-end, Turn, point-put, never-pointed, first-succeeds}
+use Rattle.steps.proofs.StepLaws.{Outcome, stopped, putting}
 use Rattle.points.proofs.put_rest.Given as goal
 
 -- what is left
