@@ -1,11 +1,7 @@
 -- `array::convert_array` meets its contract: the origin, and then the spacings. Assumes nothing.
 use mathlib.Core.Path.{◌∙◌}
-use native.Mathlib.Omega.{arith}
-use Rattle.conversion.specs.code.Fold.{Spare}
 use Rattle.block_places.specs.code.Place.{point_at, spacing_at}
-use Rattle.array.specs.code.Corners.{array_deviations}
-use Rattle.array.proofs.CornerLaws.{converted-more, origin-stops, origin-refused, array_made}
-use borrow.Author.Rules.{rules}
+use Rattle.array.proofs.CornerLaws.{origin-stops, origin-refused, array_made}
 use Rattle.array.proofs.convert_array.Goals as goal
 
 pub returns-in-Refused : goal.returns-in-Refused

@@ -1,11 +1,9 @@
 -- `array::convert_endpoints` meets its contract: columns, and then rows. Assumes nothing.
-use native.Mathlib.Omega.{arith}
 use lib.IntN.{ℤ}
 use mir.Syntax.{w32}
 use mir.Val.{SFits}
-use Rattle.conversion.specs.code.Fold.{Spare}
 use Rattle.array.specs.code.Corners.{physical_part, database_part}
-use Rattle.array.proofs.CornerLaws.{end_more, columns-stop, rows-stop, corners-made, read_back}
+use Rattle.array.proofs.CornerLaws.{columns-stop, rows-stop, corners-made, read_back}
 use borrow.Author.Rules.{rules}
 use Rattle.array.proofs.convert_endpoints.Goals as goal
 

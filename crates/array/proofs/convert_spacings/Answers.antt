@@ -3,7 +3,6 @@ use mathlib.Core.Path.{◌∙◌}
 use Rattle.block_places.specs.code.Place.{spacing_at}
 use Rattle.array.specs.code.Corners.{physical_part, database_part}
 use Rattle.array.proofs.CornerLaws.{column-spacing-stops, row-spacing-stops, spacings-made}
-use borrow.Author.Rules.{rules}
 use Rattle.array.proofs.convert_spacings.Goals as goal
 
 pub returns-in-Refused : goal.returns-in-Refused

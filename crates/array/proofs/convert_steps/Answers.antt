@@ -1,11 +1,8 @@
 -- `array::convert_steps` meets its contract: the column step, the row step, and then the endpoints. Assumes nothing.
 use mathlib.Core.Path.{◌∙◌}
-use native.Mathlib.Omega.{arith}
 use Rattle.conversion.specs.code.Answer.{point_of}
-use Rattle.conversion.specs.code.Fold.{Spare}
 use Rattle.array.specs.code.Corners.{physical_part, database_part}
-use Rattle.array.proofs.CornerLaws.{converted-more, column-stops, row-stops, steps-made}
-use borrow.Author.Rules.{rules}
+use Rattle.array.proofs.CornerLaws.{column-stops, row-stops, steps-made}
 use Rattle.array.proofs.convert_steps.Goals as goal
 
 pub returns-in-Refused : goal.returns-in-Refused

@@ -2,7 +2,6 @@
 use mathlib.Core.Path.{◌∙◌}
 use lib.Ieee.{of_bits}
 use Rattle.array.proofs.CoordinateLaws.{spacing-absent, spacing-given}
-use borrow.Author.Rules.{rules}
 use Rattle.array.proofs.physical_spacing.Goals as goal
 
 pub returns-then-is_absent : goal.returns-then-is_absent
