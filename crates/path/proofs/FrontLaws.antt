@@ -10,7 +10,6 @@ use lib.ListN.{length}
 use lib.IntN.{ℤ}
 use lib.Ieee.{Float}
 use Rattle.refusal.specs.declared.Refusal.{Refusal}
-use Rattle.refusal.specs.declared.Refusal.TheVariants as R
 use Rattle.units.specs.declared.Unit as Units
 use Rattle.units.specs.Point.{Point}
 use Rattle.big_endian.specs.Big.{number_at}

@@ -2,9 +2,8 @@
 use mathlib.Core.Path.{◌≡◌, subst}
 use Rattle.block_places.specs.code.Places.{reference_at}
 use Rattle.validation.specs.declared.Check.{Check}
-use Rattle.reference.specs.code.Reference.{guarded, guarded_by, BoundedBy}
+use Rattle.reference.specs.code.Reference.{guarded, guarded_by}
 use Rattle.reference.proofs.ValueLaws.{checks-stop, checks-pass}
-use borrow.Author.Rules.{rules}
 use Rattle.reference.proofs.reference_values.Goals as goal
 
 pub returns-in-Refused : goal.returns-in-Refused
