@@ -18,7 +18,7 @@ use Rattle.big_endian.proofs.BufferLaws.{same_bytes}
 use Rattle.refusal.specs.declared.Refusal.TheVariants as R
 use Rattle.conversion.specs.declared.GdsRoundingPolicy.{GdsRoundingPolicy}
 use Rattle.conversion.specs.declared.Entry.{Entry}
-use Rattle.conversion.specs.Made.{Made, refused, made, pure, ◌>>=◌, ◌>>◌}
+use Rattle.conversion.specs.Made.{Made, refused, made, pure, ◌>>=◌}
 use Rattle.conversion.specs.code.Fold.{run}
 use Rattle.conversion.proofs.MadeLaws.{need-on, need-off}
 use Rattle.sheet.specs.Element.{Body, Element, flags_raise, plex_raise, raised}

@@ -7,7 +7,6 @@ use Rattle.refusal.specs.declared.Refusal.TheVariants as R
 use Rattle.cell.specs.Limits.{max_string_length}
 use Rattle.conversion.proofs.MadeLaws.{stops, passes}
 use Rattle.text.specs.code.Text.{string_check}
-use borrow.Author.Rules.{rules}
 use Rattle.text.proofs.check_string.Goals as goal
 
 pub returns-then-string_length-gt-MAX_STRING_LENGTH : goal.returns-then-string_length-gt-MAX_STRING_LENGTH

@@ -8,7 +8,6 @@ use Rattle.steps.proofs.ReadyLaws.{measure-stopped, measure-ready}
 use Rattle.transform.proofs.StransLaws.{strans-short}
 use Rattle.text.specs.code.Text.{size_of, text_bytes, text_of, ready_of}
 use Rattle.text.proofs.TextLaws.{ready-short, length-text-of}
-use borrow.Author.Rules.{rules}
 use Rattle.text.proofs.measure_text.Goals as goal
 
 sum : (t u n m l : ℕ) → t ≡ u → n ≡ m → l ≡ size_of u m → 22 + t + 16 + n + n % 2 ≡ l

@@ -3,7 +3,6 @@ use native.Mathlib.Omega.{arith}
 use mir.Syntax.{w32}
 use mir.ValLaws.{to_z-of_z}
 use Rattle.text.proofs.TextLaws.{text-placed, read-long}
-use borrow.Author.Rules.{rules}
 use Rattle.text.proofs.put_records.Goals as goal
 
 pub put_string_at-requires : goal.put_string_at-requires
