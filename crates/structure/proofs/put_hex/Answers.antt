@@ -23,8 +23,5 @@ pub loop-i-preserved : goal.loop-i-preserved
 loop-i-preserved c =
     let l = c.loop-i in (omega arith, put-turn _ _ l.text l.i c.digit.result c.digit-in-loop-i.result l.invariant.1 c.loop-i-test.true c.requires c.digit.ensures c.digit-in-loop-i.ensures)
 
-pub UNMAPPED-same-length : goal.UNMAPPED-same-length
-UNMAPPED-same-length c = length_at c.loop-i.invariant.1
-
 pub returns : goal.returns
 returns c = put-end _ _ c.loop-i.text c.loop-i.i c.loop-i.invariant.1 c.loop-i-test.false

@@ -16,4 +16,4 @@ put_structure-requires c =
 pub returns : goal.returns
 returns c =
     let a = c.args in
-    subst (λ (lead : List ℕ). PutsStructure a.converter.policy a.converter.d a.sheet.now lead a.out.now a.report.now c.put_structure.new.1.1.1.0 c.put_structure.new.1.1.1.1.0 c.put_structure.result) (number_put a.cell refl c.put_u32_at.ensures) c.put_structure.ensures
+    subst (λ (lead : List ℕ). PutsStructure a.converter.policy a.converter.d a.sheet.now lead a.out.now a.report.now c.put_structure.new.out c.put_structure.new.report c.put_structure.result) (number_put a.cell refl c.put_u32_at.ensures) c.put_structure.ensures

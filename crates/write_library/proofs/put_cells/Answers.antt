@@ -68,11 +68,5 @@ loop-cell-preserved c =
     let v = c.loop-cell.invariant in
     turn-next v c.loop-cell-test.true c.block-b.ensures c.put_cell-ends.ensures
 
-pub UNMAPPED-same-length : goal.UNMAPPED-same-length
-UNMAPPED-same-length c = out-same c.loop-cell.invariant
-
-pub UNMAPPED-same-length-2 : goal.UNMAPPED-same-length-2
-UNMAPPED-same-length-2 c = report-same c.loop-cell.invariant
-
 pub returns : goal.returns
 returns c = turns-end c.loop-cell.invariant c.loop-cell-test.false

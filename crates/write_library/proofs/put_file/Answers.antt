@@ -11,7 +11,7 @@ block-b-requires c =
 pub put_head-start-requires : goal.put_head-start-requires
 put_head-start-requires c =
     let p = c.in-Passed.is in
-    (parts_in c.args.out.now c.args.report.now c.requires c.block-b.ensures c.check_head.ensures p, head-fits c.args.out.now c.args.report.now c.requires c.block-b.ensures c.check_head.ensures p)
+    record { head_in = parts_in c.args.out.now c.args.report.now c.requires c.block-b.ensures c.check_head.ensures p; parts_in_bounds = head-fits c.args.out.now c.args.report.now c.requires c.block-b.ensures c.check_head.ensures p }
 
 pub slice_bounds-put_cells-count : goal.slice_bounds-put_cells-count
 slice_bounds-put_cells-count c =
