@@ -233,8 +233,8 @@ def cells_module(vectors):
     cells = [v.cell() for v in accepted(small) + refusals(small)] + shortened(small) + limit_cells()
     rows = [documents_example().cell(), documents_array().cell()]
     return len(cells), '''-- Cells and the answers that are known of them, from outside the definitions: made by tools/computed_cases.py. Assumes nothing.
-use mathlib.Core.List.{List, [], _∷_}
-use Rattle·cases·specs.specs.Case.{Case, no, ok}
+use Rattle.std.specs.Prelude.{List, [], ◌∷◌}
+use Rattle.cases.specs.Case.{Case, no, ok}
 
 -- document 01, "Rows": the program's example, and the array
 ''' + listing("rows", rows) + "\n-- stored cases, by their names, and cells at the limits of document 02, request 6\n" + listing("cells", cells)
@@ -287,8 +287,8 @@ def libraries_module(libraries):
     small = [v for v in libraries if len(v.input) <= LARGEST_LIBRARY]
     rows = [v.cell() for v in accepted(small) + refused_libraries(small)] + shortened(small, 37, f"{OUTSIDE} ")
     return len(rows), '''-- Libraries and the answers that are known of them, from outside the definitions: made by tools/computed_cases.py. Assumes nothing.
-use mathlib.Core.List.{List, [], _∷_}
-use Rattle·cases·specs.specs.LibraryCase.{LibraryCase, no, ok}
+use Rattle.std.specs.Prelude.{List, [], ◌∷◌}
+use Rattle.cases.specs.LibraryCase.{LibraryCase, no, ok}
 
 -- stored libraries, by their names
 ''' + listing("libraries", rows, "LibraryCase")
@@ -648,7 +648,7 @@ def limit_sheet_streams():
 
 
 def fault_of(fault):
-    return {None: "none", NO_RECORD: "some noRecord", NOT_OF_GRAMMAR: "some notOfGrammar", 11: "some (beyond R.ColumnsOrRows)", 30: "some (beyond R.ArrayCorners)"}[fault]
+    return {None: "none", NO_RECORD: "some no_record", NOT_OF_GRAMMAR: "some not_of_grammar", 11: "some (beyond R.ColumnsOrRows)", 30: "some (beyond R.ArrayCorners)"}[fault]
 
 
 def as_number(data):
@@ -679,11 +679,10 @@ def streams_module(vectors):
     accepted_ones = sorted((v for v in vectors if v.fields[0] == "ok"), key=lambda v: len(v.lines[1]))
     rows += [(v.name, bytes.fromhex(v.lines[1])) for v in accepted_ones if len(v.lines[1]) <= 2 * LARGEST][::16]
     return len(rows), '''-- Streams with what is read from them: made by tools/computed_cases.py. Assumes nothing.
-use mathlib.Core.Option.{Option, none, some}
-use mathlib.Core.List.{List, [], _∷_}
-use Prim.Native.Nat.{ℕ}
-use Rattle·refusal.specs.declared.Refusal.the-variants as R
-use Rattle·stream.specs.Read.{Fault, noRecord, notOfGrammar, beyond}
+use Rattle.std.proofs.Math.Option.{Option, none, some}
+use Rattle.std.specs.Prelude.{List, [], ◌∷◌, ℕ}
+use Rattle.refusal.specs.declared.Refusal.TheVariants as R
+use Rattle.stream.specs.Read.{Fault, no_record, not_of_grammar, beyond}
 
 -- What reading to a sheet gives (document 02, request 8): number and block; or the sheet, as one number with its count of bytes, and the canonical structure, which is the stream itself (`own`) or another.
 pub data Answer : Type 0 where
@@ -706,7 +705,7 @@ streams =
 # ---- the definitions that a computed test opens
 
 BELOW = "big_endian binary64 units gds_format conversion bounds survey parsing sheet stream cell library reading".split()
-IEEE = "ofBits toBits mul div sub neg lt le eq ofInt round sum add size".split()
+IEEE = "of_bits to_bits mul div sub neg lt le eq of_int round sum add size".split()
 
 
 def open_module():
@@ -719,8 +718,8 @@ def open_module():
         for path in paths:
             found = re.findall(r"^\s*unfoldable pub (\S+)", path.read_text(encoding="utf-8"), re.M)
             if found:
-                short = "".join(w.title() for w in crate.split("_")) + "·" + path.stem
-                uses.append(f"use Rattle·{crate}.specs.{'code.' if path.parent != specs else ''}{path.stem} as {short}")
+                short = "".join(w.title() for w in crate.split("_")) + "-as-" + path.stem
+                uses.append(f"use Rattle.{crate}.specs.{'code.' if path.parent != specs else ''}{path.stem} as {short}")
                 names += [f"{short}.{n}" for n in found]
     return ("-- Every definition of the specs, opened: under `unfolding opened` a test computes with them all. Made by tools/computed_cases.py. Assumes nothing.\n"
             + "use mathlib.Core.Bool.{true}\nuse lib.Dec.{T}\nuse lib.Ieee as Ieee\n" + "\n".join(uses) + "\n\nunfoldable pub opened : T true\nunfolding "

@@ -20,7 +20,7 @@ from ravenvanity import files
 from ravenvanity import sheet as form
 from ravenvanity import show as stream
 
-NO_RECORD, NOT_OF_GRAMMAR = "noRecord", "notOfGrammar"
+NO_RECORD, NOT_OF_GRAMMAR = "no_record", "not_of_grammar"
 KINDS = {"BOUNDARY": form.POLYGON, "NODE": form.NODE, "PATH": form.PATH, "TEXT": form.TEXT, "SREF": form.REFERENCE, "AREF": form.REFERENCE,
          "BOX": form.BOX}
 COUNTS = {"BOUNDARY": (4, 8191), "PATH": (2, 8191), "NODE": (1, 50)}

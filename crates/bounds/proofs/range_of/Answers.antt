@@ -18,9 +18,10 @@ returns-then-not-finite c =
     let a = c.args in
     not_finite a.converter.policy a.converter.d a.lower a.upper (sym f.ensures ∙ c.if-not-finite.true)
 
+-- that both ends are finite is told by what is known there, whichever test stands first
 pub returns-then-not-ordered : goal.returns-then-not-ordered
 returns-then-not-ordered c =
-    let finite-ends : finite c.args.lower && finite c.args.upper ≡ true = let f = c.both_finite-finite in sym f.ensures ∙ c.if-not-finite.false in
+    let finite-ends : finite c.args.lower && finite c.args.upper ≡ true = cc in
     let t = c.admitted-ordered in
     let a = c.args in
     not-admitted a.converter.policy a.converter.d a.lower a.upper finite-ends (sym t.ensures ∙ c.if-not-ordered.true)

@@ -11,9 +11,10 @@ returns-then-not-fits c =
     let a = c.args in
     not-fitting a.converter.policy a.converter.d a.pitch a.n (sym f.ensures ∙ c.if-not-fits.true)
 
+-- that the number fits is told by what is known there, whichever test stands first
 pub returns-then-not-finite : goal.returns-then-not-finite
 returns-then-not-finite c =
-    let fitting : places_fit c.args.n ≡ true = let f = c.places_fit-fits in sym f.ensures ∙ c.if-not-fits.false in
+    let fitting : places_fit c.args.n ≡ true = cc in
     let f = c.is_finite-finite in
     let a = c.args in
     not_finite a.converter.policy a.converter.d a.pitch a.n fitting (sym f.ensures ∙ c.if-not-finite.true)
