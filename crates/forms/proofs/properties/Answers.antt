@@ -1,6 +1,7 @@
 -- `forms::properties` meets its contract. The loop's invariant: the next property begins in the block, and what is left decides.
 -- Assumes nothing.
-use mathlib.Core.Path.{sym, subst}
+use mathlib.Core.Path.{◌≡◌, sym, subst}
+use lib.ListN.{length}
 use Prim.Native.Nat.{◌+◌}
 use native.Mathlib.Omega.{arith}
 use borrow.Author.Rules.{rules}
@@ -40,9 +41,9 @@ loop-i-preserved c =
 pub returns-then-end-b : goal.returns-then-end-b
 returns-then-end-b c =
     properties-long c.args.b.now c.args.at c.u16_at-count.result c.if-b-at.false c.u16_at-count.ensures c.loop-i.end
-    (left_end _ _ _ _ _ _ _ _ c.loop-i.invariant.left c.loop-i-test.false) c.loop-i.invariant.place c.if-end-b.true
+    (left_end _ _ _ _ _ _ _ _ c.loop-i.invariant.left c.loop-i-test.false) c.loop-i.invariant.place (λ (e : c.loop-i.end ≡ length c.args.b.now). omega arith)
 
 pub returns : goal.returns
 returns c =
     properties-are c.args.b.now c.args.at c.u16_at-count.result c.if-b-at.false c.u16_at-count.ensures c.loop-i.end
-    (left_end _ _ _ _ _ _ _ _ c.loop-i.invariant.left c.loop-i-test.false) (left-place _ _ _ _ _ _ _ _ c.loop-i.invariant.left c.loop-i-test.false) c.if-end-b.false
+    (left_end _ _ _ _ _ _ _ _ c.loop-i.invariant.left c.loop-i-test.false) (left-place _ _ _ _ _ _ _ _ c.loop-i.invariant.left c.loop-i-test.false) (omega arith)

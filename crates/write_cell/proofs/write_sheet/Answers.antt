@@ -10,11 +10,12 @@ returns-then-out-length c =
     let a = c.args in
     output-short a.out.now a.report.now accepted c.if-out-length.true
 
+-- that the output is long enough is told by what is known there, whichever test stands first
 pub returns-then-report-size : goal.returns-then-report-size
 returns-then-report-size c =
     let accepted : Measured c.args.converter.policy c.args.converter.d c.args.sheet.now c.in-Accepted.length c.in-Accepted.entries c.in-Accepted.greatest = let m = c.measure_sheet in let a = c.args in measured a.converter.policy a.converter.d a.sheet.now m.result m.ensures.value c.in-Accepted.is in
     let a = c.args in
-    report-short a.out.now a.report.now accepted c.if-out-length.false c.if-report-size.true
+    report-short a.out.now a.report.now accepted (omega arith) c.if-report-size.true
 
 pub put_structure-requires : goal.put_structure-requires
 put_structure-requires c =
