@@ -313,7 +313,7 @@ def refusals(count):
     """Their names, numbers and words are the same wherever they stand."""
     count.refusals = len(refusal.TABLE)
     own = {re.sub("(?<=[a-z])(?=[A-Z])", "_", name).upper(): number
-           for name, number in found_in("crates/refusal/src/lib.rt", "fn number(", r"Refusal::(\w+) => (\d+),").items()}
+           for name, number in found_in("crates/refusal/src/lib.rt", "pub enum Refusal {", r"(\w+) = (\d+),").items()}
     numbers = {name: number for name, number in own.items() if int(number) in refusal.TABLE}
     words = {name: refusal.TABLE[int(number)][1] for name, number in numbers.items()}
     if len(numbers) != len(refusal.TABLE):

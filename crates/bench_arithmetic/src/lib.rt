@@ -11,6 +11,7 @@ ghost use Rattle.conversion.specs.Convert.{Spot, convert_unit};
 ghost use Rattle.bench_arithmetic.specs.Word.{word_of};
 
 use conversion::{Conversion, CoordinateConverter, GdsRoundingPolicy};
+use refusal::Refusal;
 use units::Unit;
 
 // Above the 32 bits of a database value: that a report entry is due, or that there is no value.
@@ -18,18 +19,14 @@ const DUE: u64 = 0x1_0000_0000;
 
 const REFUSED: u64 = 0x2_0000_0000;
 
-// A conversion's answer in one word.
-fn word(c: Conversion) -> u64
+// A conversion's answer in one word: C has no Result.
+fn word(c: Result<Conversion, Refusal>) -> u64
     ensures { (at : Spot) → result ≡ word_of (outcome at c) }
 {
     match c {
-        Conversion::Refused { refusal: _ } => REFUSED,
-        Conversion::Converted { value } => big_endian::as_u32(value) as u64,
-        Conversion::Quantized {
-            value,
-            physical: _,
-            error: _,
-        } => DUE + (big_endian::as_u32(value) as u64),
+        Err(_) => REFUSED,
+        Ok(Conversion::Converted { value }) => u64::from(big_endian::as_u32(value)),
+        Ok(Conversion::Quantized { value, .. }) => DUE + u64::from(big_endian::as_u32(value)),
     }
 }
 
@@ -42,8 +39,7 @@ pub extern "C" fn bench_arithmetic_convert(value: f64, units: f64, d: f64) -> u6
         policy: GdsRoundingPolicy::Floor,
         d,
     };
-    let u = Unit::Float { value, units };
-    word(converter.convert_unit(u))
+    word(converter.convert_unit(Unit::Float { value, units }))
 }
 
 // a * b + c, rounded once.

@@ -1,17 +1,15 @@
--- What is made of bytes is bytes, bytes and the number that they stand for, and a number's bytes by halves. Assumes nothing.
+-- What is made of bytes is bytes, and bytes and the number that they stand for. Assumes nothing.
 use mathlib.Core.Path.{◌≡◌, refl, sym, ap, ap₂, ◌∙◌, subst}
 use mathlib.Core.List.{List, [], ◌∷◌, ◌++◌, append_assoc}
 use Prim.Native.Nat.{ℕ, zero, suc, ◌+◌, ◌*◌, ◌/◌, ◌%◌, ◌^◌, ◌≤◌, ◌<◌}
-use native.Mathlib.Nat.{pow-succ', mod-lt, mul_assoc, add-mul, add_assoc, div-div-eq-div-mul, add_comm, zero-add, suc-add, zero-mul, suc-mul, lt_of_not-le}
+use native.Mathlib.Nat.{pow-succ', mod-lt, mul_assoc, add-mul, add_assoc, add_comm, zero-mul, suc-mul, lt_of_not-le}
 use native.Mathlib.Decide.{dec_le}
 use native.Mathlib.Omega.{arith}
 use lib.Arith.{digits_div, digits_lt}
 use lib.Dec.{lit<}
-use lib.Pow.{pow-add}
 use lib.ListN.{length, take, drop, length-append, length-take, get_or-eq_default}
 use lib.Seq.{get_or-take, get_or-drop}
 use Rattle.big_endian.specs.Big.{Bytes, below, number, bytes_of, joined}
-use Rattle.big_endian.proofs.BigLaws.{length-bytes_of, number-bytes_of}
 
 pub bytes-nil : Bytes []
 bytes-nil i = lit< tt
@@ -111,20 +109,3 @@ bytes_of-number (b ∷ s) h = ap (λ (z : ℕ). bytes_of (suc (length s)) (below
 -- so as many bytes that stand for the same number are the same
 pub number-once : (s t : List ℕ) → Bytes s → Bytes t → length s ≡ length t → number s ≡ number t → s ≡ t
 number-once s t h k l e = sym (bytes_of-number s h) ∙ ap₂ bytes_of l e ∙ bytes_of-number t k
-
--- ---- the bytes of a number by halves: its upper digits and its lower
-
-bytes_of-split : (j k v : ℕ) → bytes_of (j + k) v ≡ bytes_of j (v / 256 ^ k) ++ bytes_of k v
-bytes_of-split zero k v = ap (λ (n : ℕ). bytes_of n v) (zero-add k)
-bytes_of-split (suc j) k v =
-    ap (λ (n : ℕ). bytes_of n v) (suc-add j k)
-    ∙ ap₂ (λ (d : ℕ) (t : List ℕ). d % 256 ∷ t)
-    (ap (λ (m : ℕ). v / m) (ap (λ (n : ℕ). 256 ^ n) (add_comm j k) ∙ pow-add 256 k j) ∙ sym (div-div-eq-div-mul v (256 ^ k) (256 ^ j)))
-    (bytes_of-split j k v)
-
-bytes_of_mod : (k v : ℕ) → bytes_of k (v % 256 ^ k) ≡ bytes_of k v
-bytes_of_mod k v =
-    ap₂ bytes_of (sym (length-bytes_of k v)) (sym (number-bytes_of k v)) ∙ bytes_of-number (bytes_of k v) (bytes-bytes_of k v)
-
-pub bytes_of-halves : (k v : ℕ) → bytes_of k (v / 256 ^ k) ++ bytes_of k (v % 256 ^ k) ≡ bytes_of (k + k) v
-bytes_of-halves k v = ap (λ (t : List ℕ). bytes_of k (v / 256 ^ k) ++ t) (bytes_of_mod k v) ∙ sym (bytes_of-split k k v)

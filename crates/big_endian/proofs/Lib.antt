@@ -5,5 +5,3 @@ pub mod PlaceLaws
 pub mod BufferLaws
 pub mod RowLaws
 pub mod ApartLaws
-pub mod WriteLaws
-pub mod SignedLaws

@@ -6,14 +6,14 @@ use native.Mathlib.Nat.{add_comm, mul_comm, zero-mul, mod-eq_of_lt}
 use native.Mathlib.Omega.{arith}
 use lib.Dec.{T, ltb, lit<}
 use lib.IntN.{ℤ, pos}
-use lib.Ieee.{Float, nan, inf, fin, Format, binary64, prec, emax, low, up, down, is_nan, nan_bits, fits, of_bits, to_bits, odd, units, round, sum, add, sub, neg, ne}
+use lib.Ieee.{Float, nan, inf, fin, Format, binary64, prec, emax, low, up, down, is_nan, nan_bits, fits, of_bits, to_bits, odd, units, round, sum, add, sub, neg}
 use lib.Ieee.Bits.{nan_bits_is, of_bits-to_bits, to_bits-lt}
-use lib.Ieee.Compare.{differs_from_itself}
 use lib.Ieee.Fits.{round_is}
 use lib.Ieee.Order.{drop, kept}
 use lib.Ieee.Scale.{finite, round_same}
 use borrow.Author.Tests.{ltb-true, ltb-false}
 use Rattle.binary64.specs.Value.{negative, abs}
+use Rattle.binary64.proofs.Bits.{is-nan}
 
 -- ---- the bits of x but the sign
 
@@ -104,9 +104,9 @@ abs-pattern x F n = subst (λ (t : Bool). T (not t)) (sym (nan_bits_is binary64 
     go (inf s) n = tt
     go (fin s m e) n = tt
 
-pub abs-nan : (x : Float) → ne x x ≡ true → x ≡ abs x
+pub abs-nan : (x : Float) → is_nan x ≡ true → x ≡ abs x
 unfolding abs
-abs-nan x h = let e : x ≡ nan = differs_from_itself x (subst T (sym h) tt) in e ∙ ap abs (sym e)
+abs-nan x h = let e : x ≡ nan = is-nan x (subst T (sym h) tt) in e ∙ ap abs (sym e)
 
 pub abs_neg : (x : Float) → abs (neg x) ≡ abs x
 unfolding abs neg

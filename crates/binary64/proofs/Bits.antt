@@ -6,7 +6,7 @@ use lib.Dec.{T, lt→ltb}
 use lib.Arith.{le→nltb}
 use lib.Ieee.{Float, nan, inf, fin, binary64, is_nan, nan_bits, of_bits, to_bits, div, ne, ones, hid, top}
 use lib.Ieee.Bits.{nan_bits_is, nan_bits_above}
-use lib.Ieee.Compare.{differs_from_itself, nan_differs}
+use lib.Ieee.Compare.{nan_differs}
 
 -- a NaN is `nan`
 pub is-nan : (x : Float) → T (is_nan x) → x ≡ nan
@@ -28,11 +28,16 @@ nan-above n h =
 pub nan-not-below : (n : ℕ) → n % top binary64 ≤ ones binary64 * hid binary64 → T (not (nan_bits binary64 n))
 nan-not-below n h = subst (λ (b : Bool). T (not b)) (sym (nan_bits_above binary64 n)) (le→nltb (ones binary64 * hid binary64) (n % top binary64) h)
 
--- `x != x` tells a NaN
-pub differs-nan : (x : Float) → ne x x ≡ true → 0x7ff8_0000_0000_0000 ≡ to_bits binary64 x
-unfolding to_bits
-differs-nan x h = rw (differs_from_itself x (subst T (sym h) tt))
+-- the quiet NaN's pattern is a NaN's, and every NaN has it
+pub nan_is : of_bits binary64 0x7ff8_0000_0000_0000 ≡ nan
+unfolding of_bits
+nan_is = refl
 
+pub nan-bits : (x : Float) → is_nan x ≡ true → 0x7ff8_0000_0000_0000 ≡ to_bits binary64 x
+unfolding to_bits
+nan-bits x h = rw (is-nan x (subst T (sym h) tt))
+
+-- `x != x` tells a NaN
 pub same-no-nan : (x : Float) → ne x x ≡ false → T (not (is_nan x))
 unfolding is_nan
 same-no-nan nan h = absurd (true≢false (sym nan_differs ∙ h))

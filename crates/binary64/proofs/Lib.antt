@@ -8,7 +8,6 @@ pub mod PartsLaws
 pub mod Bits
 pub mod AbsLaws
 pub mod Finite
-pub mod Sign
 pub mod Signed
 pub mod Half
 pub mod Quotient

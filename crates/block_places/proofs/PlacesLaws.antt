@@ -1,19 +1,18 @@
 -- The places of a body by its kind, behind the options of its block. Assumes nothing.
-use mathlib.Core.Path.{◌≡◌, ap, ◌∙◌, subst}
+use mathlib.Core.Path.{◌≡◌, ap}
 use mathlib.Core.Bool.{Bool, true, false, cond}
 use mathlib.Core.List.{List}
 use Prim.Native.Nat.{ℕ, ◌+◌, ◌≤◌}
 use native.Mathlib.Omega.{arith}
 use lib.Dec.{eqb}
-use lib.ListN.{length, drop, length-drop}
-use borrow.Author.Tests.{ne_eqb}
+use lib.ListN.{length, length-drop}
 use Rattle.big_endian.specs.Big.{number_at}
 use Rattle.sheet.specs.Element.{polygon_kind, path_kind, text_kind, node_kind, reference_kind, plain_kind}
 use Rattle.block_places.specs.declared.BodyPlaces.{BodyPlaces}
 use Rattle.block_places.specs.declared.BodyPlaces.TheVariants as B
 use Rattle.block_places.specs.declared.Options.{Options}
 use Rattle.block_places.specs.code.Place.{string_end}
-use Rattle.block_places.specs.code.Places.{shape_places, path_places, text_places, reference_places, box_places, body_places, body_end, size_if, shift_of, options_at, shifted, body_end_in}
+use Rattle.block_places.specs.code.Places.{shape_places, path_places, text_places, reference_places, box_places, body_places, body_end, shift_of, options_at, shifted, body_end_in}
 
 -- ---- what each of the six kinds has, the places have
 
@@ -39,45 +38,7 @@ module _ (k : ℕ) (b : List ℕ) where
   unfolding shape_places path_places text_places reference_places box_places
   some_byte h = by_kind (λ s. body_end b s ≤ length b → 1 ≤ length b) (λ l. omega arith) (λ l. omega arith) (λ l. omega arith) (λ l. omega arith) (λ l. omega arith) (λ l. omega arith) h
 
-  pub polygon-places : k ≡ polygon_kind → body_places k b ≡ B.Polygon (shape_places b)
-  unfolding body_places
-  polygon-places f = rw f
-
-  pub path-places : k ≡ path_kind → body_places k b ≡ B.Path (path_places b)
-  unfolding body_places
-  path-places f = rw f
-
-  pub text-places : k ≡ text_kind → body_places k b ≡ B.Text (text_places b)
-  unfolding body_places
-  text-places f = rw f
-
-  pub node-places : k ≡ node_kind → body_places k b ≡ B.Node (shape_places b)
-  unfolding body_places
-  node-places f = rw f
-
-  pub reference-places : k ≡ reference_kind → body_places k b ≡ B.Reference (reference_places b (string_end b 1))
-  unfolding body_places
-  reference-places f = rw f
-
-  -- what is left
-  pub box-places : (k ≡ polygon_kind → ⊥) → (k ≡ path_kind → ⊥) → (k ≡ text_kind → ⊥) → (k ≡ node_kind → ⊥) → (k ≡ reference_kind → ⊥) → body_places k b ≡ B.Box (box_places b)
-  unfolding body_places
-  box-places p q t n r = rw (ne_eqb k polygon_kind p, ne_eqb k path_kind q, ne_eqb k text_kind t, ne_eqb k node_kind n, ne_eqb k reference_kind r)
-
--- the same places in other words
-pub ends-in : (b : List ℕ) {s t : BodyPlaces} → s ≡ t → body_end b s ≤ length b → body_end b t ≤ length b
-ends-in b e h = subst (λ (s : BodyPlaces). body_end b s ≤ length b) e h
-
 -- ---- options
-
--- of a part that is there
-pub size-there : (t : Bool) (n : ℕ) → t ≡ true → size_if t n ≡ n
-size-there t n e = rw e
-
--- the block that is left without the options
-pub rest-is : (b : List ℕ) {r : List ℕ} {o : Options} → o ≡ options_at b → r ≡ drop o.shift b → r ≡ shifted b
-unfolding shifted options_at
-rest-is b e f = f ∙ ap (λ (o : Options). drop o.shift b) e
 
 pub shift_is : (b : List ℕ) {o : Options} → o ≡ options_at b → o.shift ≡ shift_of (number_at 1 b 0)
 unfolding options_at

@@ -9,7 +9,6 @@ use lib.Ieee.{Float}
 use mir.Val.{to_z, of_z}
 use mir.Facts.{sfits_to_z, to_z-of_z}
 use mir.Syntax.{w32}
-use borrow.Author.Tests.{ne_eqb}
 use Rattle.big_endian.specs.Big.{Bytes, number_at}
 use Rattle.big_endian.proofs.PlaceLaws.{number-two, number-four, number-eight}
 use Rattle.units.specs.declared.Unit.TheVariants as U
@@ -41,11 +40,6 @@ lower-four s at h b =
 
 -- ---- a coordinate
 
-module _ (b : List ℕ) (at : ℕ) {u : Float} (f : u ≡ double_at b (at + 9)) where
-  pub unit-integer : {v : ℤ} → number_at 1 b at ≡ integer_kind → v ≡ to_z w32 (number_at 4 b (at + 5)) → U.Integer v u ≡ unit_at b at
-  unfolding unit_at
-  unit-integer e g = rw (e, f, g)
-
-  pub unit-double : {v : Float} → (number_at 1 b at ≡ integer_kind → ⊥) → v ≡ double_at b (at + 1) → U.Float v u ≡ unit_at b at
-  unfolding unit_at
-  unit-double e g = rw (ne_eqb (number_at 1 b at) integer_kind e, f, g)
+pub unit-integer : (b : List ℕ) (at : ℕ) {u : Float} → u ≡ double_at b (at + 9) → {v : ℤ} → number_at 1 b at ≡ integer_kind → v ≡ to_z w32 (number_at 4 b (at + 5)) → U.Integer v u ≡ unit_at b at
+unfolding unit_at
+unit-integer b at f e g = rw (e, f, g)

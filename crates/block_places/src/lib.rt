@@ -1,4 +1,4 @@
-// Where the parts of a block stand, and what stands at a place. Nothing is copied: what comes after reads the parts by place. Whether the block is well formed is asked by the crate `forms`.
+// Where the parts of a block stand, and what stands at a place. Nothing is copied: what comes after reads the parts by place. A part is a place and not a slice, since definitions and clauses tell what stands at a place of the block, to callers too. Whether the block is well formed is asked by the crate `forms`.
 #![tactic(auto)]
 
 ghost use Rattle.std.specs.Prelude.{◌≡◌, cond, ◌+◌, ◌≤◌, eqb, length, drop};
@@ -10,6 +10,7 @@ ghost use Rattle.sheet.specs.Element.{raised, plain_kind};
 ghost use Rattle.block_places.specs.code.Place.{word_end, double_at, unit_at, string_at, string_end, max_word, shape_points_place, path_points_place, string_bytes_place, box_end_place, after_name_length, coordinate_length};
 ghost use Rattle.block_places.specs.code.Places.{points_end, shape_places, path_places, text_places, reference_places, box_places, body_places, body_end, body_end_in, size_if, flags_size, plex_size, max_shift, shift_of, options_at, shifted, element_places};
 
+// The kinds, here and below, are bytes and not enums: they are compared with a byte of the block, and `plain_kind` promises that byte.
 // The kind byte of a coordinate.
 pub const INTEGER: u8 = 0;
 
@@ -140,21 +141,21 @@ pub const HEAD_NAME: usize = 0;
 pub const STAMPS: usize = 24;
 
 // The head: the places of its name and of its twelve stamp numbers.
-#[derive(Clone, Copy)]
+#[derive(Clone, Copy, PartialEq, Eq)]
 pub struct HeadPlaces {
     pub name: usize,
     pub stamps: usize,
 }
 
 // How many points there are in a row, and the place of the first.
-#[derive(Clone, Copy)]
+#[derive(Clone, Copy, PartialEq, Eq)]
 pub struct PointsPlaces {
     pub count: usize,
     pub place: usize,
 }
 
 // A polygon or a node: its numbers and its points.
-#[derive(Clone, Copy)]
+#[derive(Clone, Copy, PartialEq, Eq)]
 pub struct ShapePlaces {
     pub layer: u16,
     pub datatype: u16,
@@ -162,7 +163,7 @@ pub struct ShapePlaces {
 }
 
 // A path: its numbers, the places of its three lengths, and its points.
-#[derive(Clone, Copy)]
+#[derive(Clone, Copy, PartialEq, Eq)]
 pub struct PathPlaces {
     pub layer: u16,
     pub datatype: u16,
@@ -204,7 +205,7 @@ pub struct ReferencePlaces {
 }
 
 // A box: its numbers, and the places of its two corners.
-#[derive(Clone, Copy)]
+#[derive(Clone, Copy, PartialEq, Eq)]
 pub struct BoxPlaces {
     pub layer: u16,
     pub boxtype: u16,
@@ -223,20 +224,18 @@ pub enum BodyPlaces {
     Box { gds_box: BoxPlaces },
 }
 
-// How many properties an element has, and the place of the first.
-#[derive(Clone, Copy)]
+// How many properties an element has, and the place of the first. A type of its own: properties are as long as their strings say, and points in a row 34 bytes each.
+#[derive(Clone, Copy, PartialEq, Eq)]
 pub struct PropertyPlaces {
     pub count: usize,
     pub place: usize,
 }
 
-// The flags and the plex number of an element, this as its four bytes stand, 0 where they are absent; and how many bytes they take in its block.
-#[derive(Clone, Copy)]
+// The flags and the plex number of an element, this as its four bytes stand; and how many bytes they take in its block.
+#[derive(Clone, Copy, PartialEq, Eq)]
 pub struct Options {
-    pub flagged: bool,
-    pub flags: u16,
-    pub plexed: bool,
-    pub plex: u32,
+    pub flags: Option<u16>,
+    pub plex: Option<u32>,
     pub shift: usize,
 }
 
@@ -248,7 +247,7 @@ pub struct ElementPlaces {
     pub properties: PropertyPlaces,
 }
 
-// ---- values by place
+// ---- values by place. Block and place stay two parameters: a block is read at many places, and a clause tells what stands at one of them.
 
 pub fn double(b: &[u8], at: usize) -> f64
     requires { at + 8 ≤ length b.now }
@@ -258,6 +257,7 @@ pub fn double(b: &[u8], at: usize) -> f64
 }
 
 // The coordinate at a place, where it is not absent. Its value bytes are read at once, whatever its kind; an integer is the lower four of them.
+#[tactic(auto, unfolding(crate::specs::code::Place::unit_at))]
 pub fn unit_at(b: &[u8], at: usize) -> units::Unit
     requires { at + coordinate_length ≤ length b.now }
     ensures { result ≡ unit_at b.now at }
@@ -280,15 +280,24 @@ pub fn is_absent(b: &[u8], at: usize) -> bool
     big_endian::u8_at(b, at) == ABSENT
 }
 
-// Where the string at a place ends, by its length, which is what 2 bytes hold.
+// How many bytes the string at a place has, which is what 2 bytes hold.
+pub fn string_length(b: &[u8], at: usize) -> usize
+    requires { at + 2 ≤ length b.now }
+    ensures { (result ≡ number_at 2 b.now at) × (result ≤ max_word) }
+{
+    big_endian::u16_at(b, at) as usize
+}
+
+// Where the string at a place ends, by its length.
 pub fn string_end(b: &[u8], at: usize) -> usize
     requires { at + 2 ≤ length b.now }
     ensures { (result ≡ string_end b.now at) × (result ≤ at + (2 + max_word)) }
 {
-    at + NUMBER + big_endian::u16_at(b, at) as usize
+    at + NUMBER + string_length(b, at)
 }
 
 // The bytes of the string at a place.
+#[tactic(auto, unfolding(crate::specs::code::Place::string_at))]
 pub fn string_at(b: &[u8], at: usize) -> &[u8]
     requires { string_end b.now at ≤ length b.now }
     ensures { result.now ≡ string_at b.now at }
@@ -301,6 +310,7 @@ pub fn string_at(b: &[u8], at: usize) -> &[u8]
 // ---- the parts of each kind
 
 // A polygon, or a node. A count is what 2 bytes hold.
+#[tactic(auto, unfolding(crate::specs::code::Places::shape_places))]
 pub fn shape_places(b: &[u8]) -> ShapePlaces
     requires { shape_points_place ≤ length b.now }
     ensures { (result ≡ shape_places b.now) × (result.points.count ≤ max_word) }
@@ -316,6 +326,7 @@ pub fn shape_places(b: &[u8]) -> ShapePlaces
     }
 }
 
+#[tactic(auto, unfolding(crate::specs::code::Places::path_places))]
 pub fn path_places(b: &[u8]) -> PathPlaces
     requires { path_points_place ≤ length b.now }
     ensures { (result ≡ path_places b.now) × (result.points.count ≤ max_word) }
@@ -335,6 +346,7 @@ pub fn path_places(b: &[u8]) -> PathPlaces
     }
 }
 
+#[tactic(auto, unfolding(crate::specs::code::Places::text_places))]
 pub fn text_places(b: &[u8]) -> TextPlaces
     requires { string_bytes_place ≤ length b.now }
     ensures { result ≡ text_places b.now }
@@ -353,6 +365,7 @@ pub fn text_places(b: &[u8]) -> TextPlaces
 }
 
 // A reference whose name ends at `base`.
+#[tactic(auto, unfolding(crate::specs::code::Places::reference_places))]
 pub fn reference_places(b: &[u8], base: usize) -> ReferencePlaces
     requires { base + after_name_length ≤ length b.now }
     ensures { result ≡ reference_places b.now base }
@@ -375,6 +388,7 @@ pub fn reference_places(b: &[u8], base: usize) -> ReferencePlaces
     }
 }
 
+#[tactic(auto, unfolding(crate::specs::code::Places::box_places))]
 pub fn box_places(b: &[u8]) -> BoxPlaces
     requires { box_end_place ≤ length b.now }
     ensures { result ≡ box_places b.now }
@@ -393,10 +407,7 @@ pub fn box_places(b: &[u8]) -> BoxPlaces
 pub fn size_if(there: bool, size: usize) -> usize
     ensures { (result ≡ size_if there size) × (result ≤ size) }
 {
-    if there {
-        return size;
-    }
-    0
+    if there { size } else { 0 }
 }
 
 // Whether a kind byte is raised.
@@ -408,31 +419,12 @@ fn is_raised(kind: u8, by: u8) -> bool
 }
 
 // The bytes of the options after a kind byte.
+#[tactic(auto, unfolding(crate::specs::code::Places::shift_of))]
 pub fn shift_of(kind: u8) -> usize
     ensures { (result ≡ shift_of kind) × (result ≤ max_shift) }
 {
     let flags = size_if(is_raised(kind, FLAGS), FLAGS_SIZE);
     flags + size_if(is_raised(kind, PLEX), PLEX_SIZE)
-}
-
-fn flags_at(b: &[u8], flagged: bool) -> u16
-    requires { 1 + size_if flagged flags_size ≤ length b.now }
-    ensures { result ≡ cond flagged (number_at 2 b.now 1) 0 }
-{
-    if flagged {
-        return big_endian::u16_at(b, 1);
-    }
-    0
-}
-
-fn plex_at(b: &[u8], at: usize, plexed: bool) -> u32
-    requires { at + size_if plexed plex_size ≤ length b.now }
-    ensures { result ≡ cond plexed (number_at 4 b.now at) 0 }
-{
-    if plexed {
-        return big_endian::u32_at(b, at);
-    }
-    0
 }
 
 pub fn options_at(b: &[u8]) -> Options
@@ -441,13 +433,12 @@ pub fn options_at(b: &[u8]) -> Options
 {
     let kind = big_endian::u8_at(b, 0);
     let flagged = is_raised(kind, FLAGS);
-    let plexed = is_raised(kind, PLEX);
     let place = 1 + size_if(flagged, FLAGS_SIZE);
+    let flags = flagged.then(|| big_endian::u16_at(b, 1));
+    let plex = is_raised(kind, PLEX).then(|| big_endian::u32_at(b, place));
     Options {
-        flagged,
-        flags: flags_at(b, flagged),
-        plexed,
-        plex: plex_at(b, place, plexed),
+        flags,
+        plex,
         shift: shift_of(kind),
     }
 }
@@ -471,37 +462,30 @@ pub fn block_from(b: &[u8], at: usize) -> &[u8]
 // ---- the parts of an element
 
 // The body by its kind, which in a well-formed block is one of the six.
+#[tactic(auto, unfolding(crate::specs::code::Places::body_places, crate::specs::code::Places::shape_places, crate::specs::code::Places::path_places, crate::specs::code::Places::text_places, crate::specs::code::Places::reference_places, crate::specs::code::Places::box_places))]
 fn body_places(b: &[u8], kind: u8) -> BodyPlaces
     requires { body_end b.now (body_places kind b.now) ≤ length b.now }
     ensures { result ≡ body_places kind b.now }
 {
-    if kind == POLYGON {
-        return BodyPlaces::Polygon {
+    match kind {
+        POLYGON => BodyPlaces::Polygon {
             shape: shape_places(b),
-        };
-    }
-    if kind == PATH {
-        return BodyPlaces::Path {
+        },
+        PATH => BodyPlaces::Path {
             path: path_places(b),
-        };
-    }
-    if kind == TEXT {
-        return BodyPlaces::Text {
+        },
+        TEXT => BodyPlaces::Text {
             text: text_places(b),
-        };
-    }
-    if kind == NODE {
-        return BodyPlaces::Node {
+        },
+        NODE => BodyPlaces::Node {
             shape: shape_places(b),
-        };
-    }
-    if kind == REFERENCE {
-        return BodyPlaces::Reference {
+        },
+        REFERENCE => BodyPlaces::Reference {
             reference: reference_places(b, string_end(b, NAME)),
-        };
-    }
-    BodyPlaces::Box {
-        gds_box: box_places(b),
+        },
+        _ => BodyPlaces::Box {
+            gds_box: box_places(b),
+        },
     }
 }
 
@@ -519,10 +503,9 @@ fn body_end(b: &[u8], body: BodyPlaces) -> usize
     ensures { result ≡ body_end b.now body }
 {
     match body {
-        BodyPlaces::Polygon { shape } => points_end(shape.points),
+        BodyPlaces::Polygon { shape } | BodyPlaces::Node { shape } => points_end(shape.points),
         BodyPlaces::Path { path } => points_end(path.points),
         BodyPlaces::Text { text } => string_end(b, text.string),
-        BodyPlaces::Node { shape: node } => points_end(node.points),
         BodyPlaces::Reference { reference } => reference.row + POINT,
         BodyPlaces::Box { gds_box } => gds_box.second + POINT,
     }

@@ -3,6 +3,8 @@ use mathlib.Core.Path.{◌≡◌, refl, sym, subst}
 use mathlib.Core.List.{List}
 use Prim.Native.Nat.{ℕ, ◌≤◌}
 use lib.Ieee.{Float}
+use Rattle.std.specs.Prelude.{Result}
+use Rattle.refusal.specs.declared.Refusal.{Refusal}
 use Rattle.conversion.specs.declared.GdsRoundingPolicy.{GdsRoundingPolicy}
 use Rattle.conversion.specs.declared.Entry.{Entry}
 use Rattle.conversion.specs.Made.{Made, pure, ◌>>=◌}
@@ -28,13 +30,9 @@ use Rattle.text.specs.code.Text.{text_bytes}
 use Rattle.reference.specs.code.Reference.{reference_bytes}
 use Rattle.bodies.specs.code.Body.{body_bytes, body_length}
 
--- in the arms of a `match` on the body
-pub body-in-as : (b : List ℕ) {s t : BodyPlaces} → s ≡ t → BodyIn b s → BodyIn b t
-body-in-as b e w = subst (BodyIn b) e w
-
 -- measured or written, the step n of a body answers as the step m of its kind does
 pub record As {A : Type 0} (bytes : A → List ℕ) (m : Made A) (n : Made D.SaidBody) : Type 0 where
-  pub measures : (e : Entry) (r : Measured) → Measures bytes e m r → Measures body_bytes e n r
+  pub measures : (e : Entry) (r : Result Measured Refusal) → Measures bytes e m r → Measures body_bytes e n r
   pub accepts : Succeeds n → Succeeds m
   pub writes : {e : Entry} {at : ℕ} {before after : List ℕ} {r : Written} → Writes bytes e m at before after r → Writes body_bytes e n at before after r
 
@@ -51,29 +49,29 @@ module _ (policy : GdsRoundingPolicy) (d : Float) (b : List ℕ) where
   abbrev Kind : {A : Type 0} → (A → List ℕ) → Made A → BodyPlaces → Type 0
   Kind bytes m p = As bytes m (write_body policy d (body_at b p))
 
-  pub polygon-as : {p : BodyPlaces} (s : ShapePlaces) → p ≡ B.Polygon s → Kind polygon_bytes (write_polygon policy d (shape_at b s)) p
+  pub polygon-as : {p : BodyPlaces} {s : ShapePlaces} → p ≡ B.Polygon s → Kind polygon_bytes (write_polygon policy d (shape_at b s)) p
   unfolding write_body body_bytes
-  polygon-as s g = subst (Kind polygon_bytes (write_polygon policy d (shape_at b s))) (sym g) (wrapped polygon_bytes D.boundary (λ w. refl) (write_polygon policy d (shape_at b s)))
+  polygon-as {s = s} g = subst (Kind polygon_bytes (write_polygon policy d (shape_at b s))) (sym g) (wrapped polygon_bytes D.boundary (λ w. refl) (write_polygon policy d (shape_at b s)))
 
-  pub path-as : {p : BodyPlaces} (s : PathPlaces) → p ≡ B.Path s → Kind path_bytes (write_path policy d (path_at b s)) p
+  pub path-as : {p : BodyPlaces} {s : PathPlaces} → p ≡ B.Path s → Kind path_bytes (write_path policy d (path_at b s)) p
   unfolding write_body body_bytes path_bytes
-  path-as s g = subst (Kind path_bytes (write_path policy d (path_at b s))) (sym g) (wrapped path_bytes D.path (λ w. refl) (write_path policy d (path_at b s)))
+  path-as {s = s} g = subst (Kind path_bytes (write_path policy d (path_at b s))) (sym g) (wrapped path_bytes D.path (λ w. refl) (write_path policy d (path_at b s)))
 
-  pub text-as : {p : BodyPlaces} (s : TextPlaces) → p ≡ B.Text s → Kind text_bytes (write_text policy d (text_at b s)) p
+  pub text-as : {p : BodyPlaces} {s : TextPlaces} → p ≡ B.Text s → Kind text_bytes (write_text policy d (text_at b s)) p
   unfolding write_body body_bytes text_bytes
-  text-as s g = subst (Kind text_bytes (write_text policy d (text_at b s))) (sym g) (wrapped text_bytes D.text (λ w. refl) (write_text policy d (text_at b s)))
+  text-as {s = s} g = subst (Kind text_bytes (write_text policy d (text_at b s))) (sym g) (wrapped text_bytes D.text (λ w. refl) (write_text policy d (text_at b s)))
 
-  pub node-as : {p : BodyPlaces} (s : ShapePlaces) → p ≡ B.Node s → Kind node_bytes (write_node policy d (shape_at b s)) p
+  pub node-as : {p : BodyPlaces} {s : ShapePlaces} → p ≡ B.Node s → Kind node_bytes (write_node policy d (shape_at b s)) p
   unfolding write_body body_bytes
-  node-as s g = subst (Kind node_bytes (write_node policy d (shape_at b s))) (sym g) (wrapped node_bytes D.node (λ w. refl) (write_node policy d (shape_at b s)))
+  node-as {s = s} g = subst (Kind node_bytes (write_node policy d (shape_at b s))) (sym g) (wrapped node_bytes D.node (λ w. refl) (write_node policy d (shape_at b s)))
 
-  pub reference-as : {p : BodyPlaces} (s : ReferencePlaces) → p ≡ B.Reference s → Kind reference_bytes (write_reference policy d (reference_at b s)) p
+  pub reference-as : {p : BodyPlaces} {s : ReferencePlaces} → p ≡ B.Reference s → Kind reference_bytes (write_reference policy d (reference_at b s)) p
   unfolding write_body body_bytes reference_bytes
-  reference-as s g = subst (Kind reference_bytes (write_reference policy d (reference_at b s))) (sym g) (record { measures = λ e r h. h; accepts = λ s. s; writes = λ w. w })
+  reference-as {s = s} g = subst (Kind reference_bytes (write_reference policy d (reference_at b s))) (sym g) (record { measures = λ e r h. h; accepts = λ s. s; writes = λ w. w })
 
-  pub box-as : {p : BodyPlaces} (s : BoxPlaces) → p ≡ B.Box s → Kind box_bytes (write_box policy d (box_at b s)) p
+  pub box-as : {p : BodyPlaces} {s : BoxPlaces} → p ≡ B.Box s → Kind box_bytes (write_box policy d (box_at b s)) p
   unfolding write_body body_bytes
-  box-as s g = subst (Kind box_bytes (write_box policy d (box_at b s))) (sym g) (wrapped box_bytes D.box (λ w. refl) (write_box policy d (box_at b s)))
+  box-as {s = s} g = subst (Kind box_bytes (write_box policy d (box_at b s))) (sym g) (wrapped box_bytes D.box (λ w. refl) (write_box policy d (box_at b s)))
 
 -- ---- writing
 

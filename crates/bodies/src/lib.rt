@@ -10,6 +10,7 @@ ghost use Rattle.bodies.specs.code.Body.{body_bytes, body_length};
 
 use block_places::BodyPlaces;
 use conversion::{CoordinateConverter, Entry};
+use refusal::Refusal;
 use steps::{Measured, Written};
 
 // ---- measuring
@@ -20,7 +21,7 @@ pub fn measure_body(
     b: &[u8],
     body: BodyPlaces,
     entry: Entry,
-) -> Measured
+) -> Result<Measured, Refusal>
     requires body_in { BodyIn b.now body }
     requires spare { Spare max_deviations entry }
     ensures { Measures body_bytes entry (write_body converter.policy converter.d (body_at b.now body)) result }

@@ -3,6 +3,7 @@ use mathlib.Core.Path.{◌≡◌, refl, sym, ap, ◌∙◌}
 use mathlib.Core.Bool.{true, false, ◌&&◌}
 use Prim.Native.Nat.{ℕ}
 use native.Mathlib.Omega.{arith}
+use Rattle.std.specs.Prelude.{Result, Ok, Err}
 use lib.Dec.{T}
 use lib.IntN.{ℤ}
 use lib.Ieee.{Float, binary64, fits}
@@ -11,18 +12,12 @@ use Rattle.refusal.specs.declared.Refusal.{Refusal}
 use Rattle.refusal.specs.declared.Refusal.TheVariants as R
 use Rattle.refusal.proofs.NumberLaws.{number-above}
 use Rattle.conversion.specs.declared.GdsRoundingPolicy.{GdsRoundingPolicy}
-use Rattle.conversion.specs.declared.DatabaseValue.{DatabaseValue}
-use Rattle.conversion.specs.declared.DatabaseValue.TheVariants as D
-use Rattle.conversion.specs.declared.CallerPolicy.{CallerPolicy}
-use Rattle.conversion.specs.declared.CallerPolicy.TheVariants as C
 use Rattle.conversion.specs.Made.{Made, refused, made, pure, ◌>>=◌}
 use Rattle.conversion.specs.Policy.{caller_policy}
 use Rattle.conversion.specs.Convert.{database_value}
-use Rattle.conversion.specs.code.Answer.{caller_of, value_of}
 use Rattle.conversion.proofs.MadeLaws.{Yields, no-yield, made_yields, steps, need-on, need-off, refused-on, pure-on}
-use Rattle.conversion.proofs.PolicyLaws.{Caller, unnamed, no_unit, passes, caller, caller-refused, caller-policy}
-use Rattle.bounds.specs.declared.RangeAnswer.{RangeAnswer}
-use Rattle.bounds.specs.declared.RangeAnswer.TheVariants as A
+use Rattle.conversion.proofs.PolicyLaws.{Caller, unnamed, no_unit, passes, caller}
+use Rattle.bounds.specs.declared.DatabaseRange.{DatabaseRange}
 use Rattle.bounds.specs.Range.{Range, admitted, range_of, convert_bounds}
 use Rattle.bounds.specs.Answer.{answer_of, values_of}
 use Rattle.bounds.specs.Bounds.{SpansFor, ConvertsBounds}
@@ -31,16 +26,16 @@ use Rattle.bounds.proofs.SpansLaws.{range-spans}
 -- ---- the ends, in the order of their checks; v and w are the answers of their conversions
 
 module _ (policy : GdsRoundingPolicy) (d lo hi : Float) where
-  pub not_finite : finite lo && finite hi ≡ false → A.Refused R.NotFinite ≡ answer_of (range_of policy d lo hi)
+  pub not_finite : finite lo && finite hi ≡ false → Err R.NotFinite ≡ answer_of (range_of policy d lo hi)
   unfolding range_of
   not_finite h = sym (ap answer_of (need-off (finite lo && finite hi) R.NotFinite _ h))
 
   module _ (f : finite lo && finite hi ≡ true) where
-    pub not-admitted : admitted policy lo hi ≡ false → A.Refused R.Bounds ≡ answer_of (range_of policy d lo hi)
+    pub not-admitted : admitted policy lo hi ≡ false → Err R.Bounds ≡ answer_of (range_of policy d lo hi)
     unfolding range_of
     not-admitted h = sym (ap answer_of (need-on (finite lo && finite hi) R.NotFinite _ f ∙ need-off (admitted policy lo hi) R.Bounds _ h))
 
-    module _ (h : admitted policy lo hi ≡ true) (v : DatabaseValue) (e : value_of v ≡ database_value policy d lo) where
+    module _ (h : admitted policy lo hi ≡ true) where
       abbrev with-upper : ℤ → Made Range
       with-upper a = database_value policy d hi >>= λ b. pure (record { least = a; greatest = b })
 
@@ -48,29 +43,29 @@ module _ (policy : GdsRoundingPolicy) (d lo hi : Float) where
       unfolding range_of
       ends = sym (need-on (finite lo && finite hi) R.NotFinite _ f ∙ need-on (admitted policy lo hi) R.Bounds _ h)
 
-      pub lower-refused : (r : Refusal) → v ≡ D.Refused r → A.Refused r ≡ answer_of (range_of policy d lo hi)
-      lower-refused r k = ap answer_of (refused-on (database_value policy d lo) with-upper r (sym (ap value_of k) ∙ e) ∙ ends)
+      pub lower-refused : (r : Refusal) → refused r ≡ database_value policy d lo → Err r ≡ answer_of (range_of policy d lo hi)
+      lower-refused r k = ap answer_of (refused-on (database_value policy d lo) with-upper r k ∙ ends)
 
-      module _ (a : ℤ) (k : v ≡ D.At a) (w : DatabaseValue) (i : value_of w ≡ database_value policy d hi) where
+      module _ (a : ℤ) (k : pure a ≡ database_value policy d lo) where
         after_lower : with-upper a ≡ range_of policy d lo hi
-        after_lower = pure-on (database_value policy d lo) with-upper a (sym (ap value_of k) ∙ e) ∙ ends
+        after_lower = pure-on (database_value policy d lo) with-upper a k ∙ ends
 
-        pub upper-refused : (r : Refusal) → w ≡ D.Refused r → A.Refused r ≡ answer_of (range_of policy d lo hi)
-        upper-refused r j = ap answer_of (refused-on (database_value policy d hi) (λ b. pure (record { least = a; greatest = b })) r (sym (ap value_of j) ∙ i) ∙ after_lower)
+        pub upper-refused : (r : Refusal) → refused r ≡ database_value policy d hi → Err r ≡ answer_of (range_of policy d lo hi)
+        upper-refused r j = ap answer_of (refused-on (database_value policy d hi) (λ b. pure (record { least = a; greatest = b })) r j ∙ after_lower)
 
-        pub range-is : (b : ℤ) → w ≡ D.At b → A.Range a b ≡ answer_of (range_of policy d lo hi)
-        range-is b j = ap answer_of (pure-on (database_value policy d hi) (λ b. pure (record { least = a; greatest = b })) b (sym (ap value_of j) ∙ i) ∙ after_lower)
+        pub range-is : (b : ℤ) → pure b ≡ database_value policy d hi → Ok (record { least = a; greatest = b }) ≡ answer_of (range_of policy d lo hi)
+        range-is b j = ap answer_of (pure-on (database_value policy d hi) (λ b. pure (record { least = a; greatest = b })) b j ∙ after_lower)
 
 -- ---- the caller's checks before them
 
 module _ (n : ℕ) (d lo hi : Float) where
-  pub caller-stop : (v : CallerPolicy) (r : Refusal) → v ≡ C.Refused r → caller_of v ≡ caller_policy n d → A.Refused r ≡ answer_of (convert_bounds n d lo hi)
+  pub caller-stop : (r : Refusal) → refused r ≡ caller_policy n d → Err r ≡ answer_of (convert_bounds n d lo hi)
   unfolding convert_bounds
-  caller-stop v r e h = ap answer_of (caller-refused n d (λ p. range_of p d lo hi) v h r e)
+  caller-stop r h = ap answer_of (refused-on (caller_policy n d) (λ p. range_of p d lo hi) r h)
 
-  pub caller-on : (v : CallerPolicy) (p : GdsRoundingPolicy) → v ≡ C.With p → caller_of v ≡ caller_policy n d → answer_of (range_of p d lo hi) ≡ answer_of (convert_bounds n d lo hi)
+  pub caller-on : (p : GdsRoundingPolicy) → pure p ≡ caller_policy n d → answer_of (range_of p d lo hi) ≡ answer_of (convert_bounds n d lo hi)
   unfolding convert_bounds
-  caller-on v p e h = ap answer_of (caller-policy n d (λ p. range_of p d lo hi) v h p e)
+  caller-on p h = ap answer_of (pure-on (caller_policy n d) (λ p. range_of p d lo hi) p h)
 
   -- ---- the promise
 
@@ -88,5 +83,5 @@ module _ (n : ℕ) (d lo hi : Float) where
     spans-at (refused r) e z = let h = number-above r in absurd (omega arith)
     spans-at (made r vs) e z = spans-for r (record { log = vs; is = e })
 
-    pub converts : (a : RangeAnswer) → a ≡ answer_of (convert_bounds n d lo hi) → ConvertsBounds n d lo hi (values_of a)
+    pub converts : (a : Result DatabaseRange Refusal) → a ≡ answer_of (convert_bounds n d lo hi) → ConvertsBounds n d lo hi (values_of a)
     converts a e = record { answer = ap values_of e; spans = rw e (spans-at (convert_bounds n d lo hi) refl) }

@@ -8,25 +8,21 @@ ghost use Rattle.bounds.specs.Range.{range_of};
 ghost use Rattle.bounds.specs.Answer.{answer_of, values_of};
 ghost use Rattle.bounds.specs.Bounds.{ConvertsBounds};
 
-use conversion::{CallerPolicy, CoordinateConverter, DatabaseValue, GdsRoundingPolicy};
+use conversion::{CoordinateConverter, GdsRoundingPolicy};
 use refusal::Refusal;
 
-// A refusal; or the least and the greatest database value.
-#[derive(Clone, Copy)]
-pub enum RangeAnswer {
-    Refused { refusal: Refusal },
-    Range { least: i32, greatest: i32 },
+// The least and the greatest database value.
+#[derive(Clone, Copy, Debug, PartialEq, Eq)]
+pub struct DatabaseRange {
+    pub least: i32,
+    pub greatest: i32,
 }
 
 // Whether both ends are finite.
 fn both_finite(lower: f64, upper: f64) -> bool
     ensures { result ≡ finite lower && finite upper }
 {
-    if binary64::is_finite(lower) {
-        binary64::is_finite(upper)
-    } else {
-        false
-    }
+    binary64::is_finite(lower) && binary64::is_finite(upper)
 }
 
 // Whether two finite ends are bounds under a policy: strict takes equal ends alone.
@@ -34,55 +30,38 @@ fn admitted(policy: GdsRoundingPolicy, lower: f64, upper: f64) -> bool
     ensures { result ≡ Range.admitted policy lower upper }
 {
     match policy {
-        GdsRoundingPolicy::Nearest => lower <= upper,
-        GdsRoundingPolicy::Floor => lower <= upper,
-        GdsRoundingPolicy::Ceil => lower <= upper,
+        GdsRoundingPolicy::Nearest | GdsRoundingPolicy::Floor | GdsRoundingPolicy::Ceil => {
+            lower <= upper
+        }
         GdsRoundingPolicy::ErrorIfOffGrid => lower == upper,
     }
 }
 
 // The range under a policy. Conversion keeps order, so the two ends have its least and its greatest value.
-fn range_of(converter: CoordinateConverter, lower: f64, upper: f64) -> RangeAnswer
+fn range_of(
+    converter: CoordinateConverter,
+    lower: f64,
+    upper: f64,
+) -> Result<DatabaseRange, Refusal>
     ensures { result ≡ answer_of (range_of converter.policy converter.d lower upper) }
 {
     let finite = both_finite(lower, upper);
-    let policy = converter.policy;
-    let ordered = admitted(policy, lower, upper);
+    let ordered = admitted(converter.policy, lower, upper);
     if !finite {
-        return RangeAnswer::Refused {
-            refusal: Refusal::NotFinite,
-        };
+        return Err(Refusal::NotFinite);
     }
     if !ordered {
-        return RangeAnswer::Refused {
-            refusal: Refusal::Bounds,
-        };
+        return Err(Refusal::Bounds);
     }
-    match converter.database_value(lower) {
-        DatabaseValue::Refused { refusal } => RangeAnswer::Refused { refusal },
-        DatabaseValue::At { value: least } => {
-            match converter.database_value(upper) {
-                DatabaseValue::Refused { refusal: above } => {
-                    RangeAnswer::Refused { refusal: above }
-                }
-                DatabaseValue::At { value: greatest } => RangeAnswer::Range { least, greatest },
-            }
-        }
-    }
+    let least = converter.database_value(lower)?;
+    let greatest = converter.database_value(upper)?;
+    Ok(DatabaseRange { least, greatest })
 }
 
 // The least and the greatest database value of all doubles from the lower end to the upper, both included.
-pub fn convert_bounds(policy: u8, d: f64, lower: f64, upper: f64) -> RangeAnswer
+pub fn convert_bounds(policy: u8, d: f64, lower: f64, upper: f64) -> Result<DatabaseRange, Refusal>
     ensures { ConvertsBounds policy d lower upper (values_of result) }
 {
-    match conversion::caller_policy(policy, d) {
-        CallerPolicy::Refused { refusal } => RangeAnswer::Refused { refusal },
-        CallerPolicy::With { policy: rounding } => {
-            let converter = CoordinateConverter {
-                policy: rounding,
-                d,
-            };
-            range_of(converter, lower, upper)
-        }
-    }
+    let converter = CoordinateConverter::of_caller(policy, d)?;
+    range_of(converter, lower, upper)
 }

@@ -1,17 +1,19 @@
 -- A box is its checks, then its points, whose ends meet; and its records in the output. Assumes nothing.
-use mathlib.Core.Path.{◌≡◌, refl, sym, ap, ap₂, ◌∙◌, subst}
-use mathlib.Core.List.{List, ◌++◌, append-nil}
+use mathlib.Core.Path.{◌≡◌, refl, sym, ap, ◌∙◌}
+use mathlib.Core.List.{List, append-nil}
 use Prim.Native.Nat.{ℕ}
 use lib.Dec.{T}
 use lib.ListN.{length}
 use lib.IntN.{ℤ}
 use lib.Ieee.{Float}
 use lib.Ieee.Bits.{is_true}
+use Rattle.std.specs.Prelude.{Result, Ok, Err, IsOk}
 use Rattle.refusal.specs.declared.Refusal.{Refusal}
 use Rattle.refusal.specs.declared.Refusal.TheVariants as R
 use Rattle.big_endian.specs.Buffer.{WroteAt}
 use Rattle.big_endian.proofs.BufferLaws.{then_at, same_bytes}
 use Rattle.units.specs.Point.{Point}
+use Rattle.conversion.specs.declared.DatabasePoint.{DatabasePoint}
 use Rattle.conversion.specs.declared.Deviation.{Deviation}
 use Rattle.conversion.specs.declared.Entry.{Entry}
 use Rattle.conversion.specs.declared.GdsRoundingPolicy.{GdsRoundingPolicy}
@@ -23,7 +25,7 @@ use Rattle.conversion.proofs.MadeLaws.{Yields, made_yields, steps, checked, then
 use Rattle.sheet.specs.Element as S
 use Rattle.stream.specs.Structure as D
 use Rattle.stream.specs.Record.{LAYER, BOX, BOXTYPE, record_bytes, stream_bytes}
-use Rattle.stream.specs.Records.{long_bytes, points_bytes, empty_record, word_record, xy_record, shape_records}
+use Rattle.stream.specs.Records.{point_bytes, points_bytes, empty_record, word_record, xy_record, shape_records}
 use Rattle.cell.specs.Write.{layer_and_type, closed, box_points, write_box}
 use Rattle.cell.proofs.BoxLaws.{box-cornered, box_closes}
 use Rattle.records.specs.code.Bytes.{record_head, word_record_length, Placed, Recorded}
@@ -35,9 +37,9 @@ use Rattle.block_places.specs.code.Places.{box_at}
 use Rattle.steps.specs.code.Ready.{Ready, stopped, ready}
 use Rattle.steps.specs.code.Steps.{Succeeds}
 use Rattle.steps.proofs.StepLaws.{run-through, yields}
+use Rattle.steps.proofs.ReadyLaws.{never-stopped}
 use Rattle.boxes.specs.declared.BoxValues.{BoxValues}
-use Rattle.boxes.specs.declared.BoxValues.TheVariants as X
-use Rattle.boxes.specs.code.Box.{box_xy_length, box_length, box_bytes, corner, points_of, box_of, ready_of}
+use Rattle.boxes.specs.code.Box.{box_xy_length, box_length, box_bytes, corners_of, points_of, box_of, ready_of}
 
 -- ---- a box is its checks, then its points
 
@@ -78,11 +80,11 @@ module _ (policy : GdsRoundingPolicy) (d : Float) (b : List ℕ) (s : BoxPlaces)
   whole (stopped x) = stopped x
   whole (ready ps e') = ready (shaped ps) e'
 
-  ready-whole : (r : BoxValues) → ready_of s r ≡ whole (points_of r)
-  ready-whole (X.Refused x) = refl
-  ready-whole (X.Ready x1 y1 x2 y2 e') = refl
+  ready-whole : (r : Result BoxValues Refusal) → ready_of s r ≡ whole (points_of r)
+  ready-whole (Err x) = refl
+  ready-whole (Ok v) = refl
 
-  module _ (h : pure tt ≡ checks) (r : BoxValues) (g : points_of r ≡ run stopped e points ready) where
+  module _ (h : pure tt ≡ checks) (r : Result BoxValues Refusal) (g : points_of r ≡ run stopped e points ready) where
     pub checks-pass : ready_of s r ≡ answer
     unfolding ◌>>◌
     checks-pass =
@@ -93,9 +95,18 @@ module _ (policy : GdsRoundingPolicy) (d : Float) (b : List ℕ) (s : BoxPlaces)
         ∙ ap (λ (m : Made D.Shape). run stopped e m ready) (pure-on checks (λ u. points >>= λ ps. pure (shaped ps)) tt h ∙ sym box-is)
 
   -- a box that succeeds has passed its checks
-  pub passed : Succeeds (write_box policy d box) → pure tt ≡ checks
+  passed : Succeeds (write_box policy d box) → pure tt ≡ checks
   unfolding write_box box_at
   passed w = both-yield s.layer s.boxtype (then-steps (yields w)).first
+
+  -- so what is ready after them is its own
+  pub ready-past : Succeeds (write_box policy d box) → (r : Result BoxValues Refusal) → points_of r ≡ run stopped e points ready → ready_of s r ≡ answer
+  ready-past w r g = checks-pass (passed w) r g
+
+  -- and no point of it is refused
+  pub never-refused : Succeeds (write_box policy d box) → (r : Result BoxValues Refusal) → points_of r ≡ run stopped e points ready → IsOk r
+  never-refused w (Err x) g = never-stopped e _ x w (ready-past w (Err x) g)
+  never-refused w (Ok v) g = refl
 
 -- ---- its records
 
@@ -114,27 +125,21 @@ box-length policy d e w y =
     ∙ ap (λ (ps : List (Point ℤ)). length (box_bytes (record { layer = e.layer; datatype = e.boxtype; points = ps }))) c.points
     ∙ length-box e.layer e.boxtype c.corner c.opposite
 
--- corners as the machine reads them back
-pub same-box : (s : BoxPlaces) {n : ℕ} {d d' : List ℕ} {at to : ℕ} {x1 y1 x2 y2 z1 w1 z2 w2 : ℤ} → z1 ≡ x1 → w1 ≡ y1 → z2 ≡ x2 → w2 ≡ y2
-    → Placed (box_bytes (box_of s z1 w1 z2 w2)) n d d' at to → Placed (box_bytes (box_of s x1 y1 x2 y2)) n d d' at to
-same-box s {n} {d} {d'} {at} {to} h i j k w =
-    subst (λ (v : D.Shape). Placed (box_bytes v) n d d' at to) (ap₂ (λ (p q : Point ℤ). record { layer = s.layer; datatype = s.boxtype; points = box_points p q }) (ap₂ corner h i) (ap₂ corner j k)) w
-
 -- five points in a row are those of the box
 pub five-points : (p q : Point ℤ) {d1 d2 d3 d4 d5 d6 : List ℕ} {a1 a2 a3 a4 a5 a6 : ℕ}
-    → WroteAt (long_bytes p.x ++ long_bytes p.y) d1 d2 a1 a2
-    → WroteAt (long_bytes q.x ++ long_bytes p.y) d2 d3 a2 a3
-    → WroteAt (long_bytes q.x ++ long_bytes q.y) d3 d4 a3 a4
-    → WroteAt (long_bytes p.x ++ long_bytes q.y) d4 d5 a4 a5
-    → WroteAt (long_bytes p.x ++ long_bytes p.y) d5 d6 a5 a6
+    → WroteAt (point_bytes p) d1 d2 a1 a2
+    → WroteAt (point_bytes (record { x = q.x; y = p.y })) d2 d3 a2 a3
+    → WroteAt (point_bytes q) d3 d4 a3 a4
+    → WroteAt (point_bytes (record { x = p.x; y = q.y })) d4 d5 a4 a5
+    → WroteAt (point_bytes p) d5 d6 a5 a6
     → WroteAt (points_bytes (box_points p q)) d1 d6 a1 a6
 five-points p q w1 w2 w3 w4 w5 = then_at w1 (then_at w2 (then_at w3 (then_at w4 (same_bytes (sym (append-nil _)) w5))))
 
-pub box-placed : (s : BoxPlaces) (x1 y1 x2 y2 : ℤ) {d1 d2 d3 d4 d5 : List ℕ} {a1 a2 a3 a4 a5 : ℕ}
+pub box-placed : (s : BoxPlaces) (p q : DatabasePoint) {d1 d2 d3 d4 d5 : List ℕ} {a1 a2 a3 a4 a5 : ℕ}
     → Recorded (empty_record BOX) record_head d1 d2 a1 a2
     → Recorded (word_record LAYER s.layer) word_record_length d2 d3 a2 a3
     → Recorded (word_record BOXTYPE s.boxtype) word_record_length d3 d4 a3 a4
-    → Recorded (xy_record (box_points (corner x1 y1) (corner x2 y2))) box_xy_length d4 d5 a4 a5
-    → Placed (box_bytes (box_of s x1 y1 x2 y2)) box_length d1 d5 a1 a5
+    → Recorded (xy_record (corners_of p q)) box_xy_length d4 d5 a4 a5
+    → Placed (box_bytes (box_of s p q)) box_length d1 d5 a1 a5
 unfolding shape_records
-box-placed s x1 y1 x2 y2 w1 w2 w3 w4 = then-rest _ _ w1 (then-rest _ _ w2 (then-rest _ _ w3 (alone _ w4)))
+box-placed s p q w1 w2 w3 w4 = then-rest _ _ w1 (then-rest _ _ w2 (then-rest _ _ w3 (alone _ w4)))

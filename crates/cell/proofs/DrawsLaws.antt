@@ -28,17 +28,17 @@ use Rattle.stream.proofs.Fit.{FitElement, FitStructure}
 use Rattle.stream.proofs.StringLaws.{trimmed-padded}
 use Rattle.stream.proofs.BackLaws.{structure_of-back, structure-bytewise}
 use Rattle.conversion.specs.Entry.{entry_length}
-use Rattle.cell.specs.declared.Answer.TheVariants as A
 use Rattle.cell.specs.Stamps.{stamps_fit}
 use Rattle.cell.specs.Names.{is_name}
 use Rattle.cell.specs.Call.{checked_call}
 use Rattle.cell.specs.Write.{write_element}
 use Rattle.cell.specs.Cell.{Result, stopped, written, write_one, write_block, write_blocks, structure_for, structure_with, write_headed, write_sheet, after_caller, cell_structure, structure_bytes, fitting, write_cell, out_after}
-use Rattle.cell.specs.Answer.{answer_of}
+use Rattle.cell.specs.Answer.{accepted, answer_of}
 use Rattle.cell.specs.Draws.{Each, AlikeElement, Alike, Draws}
 use Rattle.cell.specs.Draws as W
 use Rattle.cell.specs.Demand3.{Demand3}
 use Rattle.cell.specs.Edges.{cell_edges, drawn_points, KeepsEdges, EdgesNeverCross}
+use Rattle.cell.proofs.AnswerLaws.{same-parts}
 use Rattle.cell.proofs.ResultLaws.{Whenever, whenever-map, check-whenever}
 use Rattle.cell.proofs.CallLaws.{Calling, unnamed, no_unit, too_long, passes, calling}
 use Rattle.cell.proofs.Taken.{each_append, each-length, TakenPoint, taken-order}
@@ -144,11 +144,11 @@ module _ (policy : ℕ) (d : Float) (sheet : List ℕ) (fd : T (fits binary64 d)
 
 -- Where the answer is a structure of n bytes, the output's first n bytes are the structure's.
 accepted-bytes : (P : List ℕ → Type 0) (out : List ℕ) (n entries : ℕ) (greatest : Float) (x : Result Structure) → Whenever (λ s. P (structure_bytes s)) x
-    → answer_of x ≡ A.Accepted n entries greatest → P (take n (out_after x out))
+    → answer_of x ≡ accepted n entries greatest → P (take n (out_after x out))
 unfolding over
 accepted-bytes P out n entries greatest (stopped r k) h q = let z : ◌≡◌ {A = ℕ} 0 1 = cc in absurd (omega arith)
 accepted-bytes P out n entries greatest (written s es) h q =
-    let e : length (structure_bytes s) ≡ n = cc in
+    let e = (same-parts _ _ q).0 in
     subst (λ (k : ℕ). P (take k (out_after (written s es) out))) e (subst P (sym (take-append_seam (structure_bytes s) (drop (length (structure_bytes s)) out))) h)
 
 -- Demand 3.

@@ -17,10 +17,11 @@ use Rattle.stream.specs.Records.{structure_records}
 use Rattle.stream.proofs.RecordLaws.{Length}
 use Rattle.stream.proofs.BytesLaws.{lengths}
 use Rattle.stream.proofs.BackLaws.{record-lengths, structure-length}
-use Rattle.cell.specs.declared.Answer.TheVariants as A
 use Rattle.cell.specs.Cell.{Result, stopped, written, cell_structure, structure_bytes, fitting, write_cell}
+use Rattle.cell.specs.Answer as A
 use Rattle.cell.specs.Answer.{answer_of}
 use Rattle.cell.specs.Agree.{Agrees, WritingAgrees}
+use Rattle.cell.proofs.AnswerLaws.{same-parts}
 use Rattle.cell.proofs.ResultLaws.{Whenever, check-on, check-off}
 use Rattle.cell.proofs.DrawsLaws.{written-drawing}
 
@@ -33,7 +34,7 @@ fitting-agrees out report (stopped r k) = record {
   accepted = λ n c g e l m. never e;
 }
   where
-    never : {X : Type 0} {n c : ℕ} {g : Float} → A.Refused r k ≡ A.Accepted n c g → X
+    never : {X : Type 0} {n c : ℕ} {g : Float} → A.refused r k ≡ A.accepted n c g → X
     never e = let z : ◌≡◌ {A = ℕ} 0 1 = cc in absurd (omega arith)
 fitting-agrees out report (written s es) =
     let bytes = length (structure_bytes s) in
@@ -41,15 +42,13 @@ fitting-agrees out report (written s es) =
     record {
       refused = λ r k e. let z : ◌≡◌ {A = ℕ} 0 1 = cc in absurd (omega arith);
       output_short = λ n c g e l.
-          let f : n ≡ length (structure_bytes s) = cc in
+          let same = same-parts _ _ e in
           ap answer_of (check-off (leb bytes out) _ _ (lt-leb bytes out (omega arith)));
       report_short = λ n c g e l m.
-          let f : n ≡ length (structure_bytes s) = cc in
-          let h : c ≡ length es = cc in
+          let same = same-parts _ _ e in
           ap answer_of (check-on (leb bytes out) _ _ (le-leb bytes out (omega arith)) ∙ check-off (leb entries report) _ _ (lt-leb entries report (omega arith)));
       accepted = λ n c g e l m.
-          let f : n ≡ length (structure_bytes s) = cc in
-          let h : c ≡ length es = cc in
+          let same = same-parts _ _ e in
           ap answer_of (check-on (leb bytes out) _ _ (le-leb bytes out (omega arith)) ∙ check-on (leb entries report) _ _ (le-leb entries report (omega arith))) ∙ e;
     }
 
@@ -65,5 +64,5 @@ pub written-lengths : (policy : ℕ) (d : Float) (sheet : List ℕ) (out report 
 written-lengths policy d sheet out report s es fd all e = record-lengths s (subst (Whenever _) e (written-drawing policy d sheet fd all out report)).fit
 
 -- The length that is answered is the sum of the records'.
-pub answered-length : (s : Structure) (es : List Entry) → answer_of (written s es) ≡ A.Accepted (lengths (structure_records s)) (length es) (greatest_from zero64 es)
-answered-length s es = ap (λ (n : ℕ). A.Accepted n (length es) (greatest_from zero64 es)) (structure-length s)
+pub answered-length : (s : Structure) (es : List Entry) → answer_of (written s es) ≡ A.accepted (lengths (structure_records s)) (length es) (greatest_from zero64 es)
+answered-length s es = ap (λ (n : ℕ). A.accepted n (length es) (greatest_from zero64 es)) (structure-length s)

@@ -20,9 +20,8 @@ use Rattle.units.specs.declared.Unit.{Unit}
 use Rattle.units.specs.declared.Unit.TheVariants as U
 use Rattle.units.specs.Point.{Point}
 use Rattle.units.specs.Physical.{physical, passed}
-use Rattle.gds_format.specs.declared.Encoding.{Encoding}
-use Rattle.gds_format.specs.declared.Encoding.TheVariants as E
-use Rattle.gds_format.specs.Real8.{real8, encoding, values_of}
+use Rattle.std.specs.Prelude.{Ok, Err}
+use Rattle.gds_format.specs.Real8.{Encoding, real8, encoding, values_of}
 use Rattle.gds_format.proofs.Real8Laws.{real8-worth, real8-finite}
 use Rattle.conversion.specs.declared.GdsRoundingPolicy.{GdsRoundingPolicy}
 use Rattle.conversion.specs.Made.{Made, pure}
@@ -83,8 +82,8 @@ unfolding real8
 real8-bytes x b e = go (encoding x) e
   where
     go : (o : Encoding) → (values_of o).bytes ≡ some b → Bytes b
-    go (E.Refused r) e = let z : ◌≡◌ {A = ℕ} 0 1 = cc in absurd (omega arith)
-    go (E.Encoded r) e =
+    go (Err r) e = let z : ◌≡◌ {A = ℕ} 0 1 = cc in absurd (omega arith)
+    go (Ok r) e =
         let f : bytes_of 8 r.pattern ≡ b = cc in
         subst Bytes f (bytes-bytes_of 8 r.pattern)
 

@@ -4,17 +4,16 @@ use Rattle.std.specs.Prelude.{◌≡◌, List, ℕ, ◌*◌, ◌≤◌, ◌<◌,
 use Rattle.refusal.specs.declared.Refusal.{Refusal}
 use Rattle.refusal.specs.declared.Refusal.TheVariants as R
 use Rattle.conversion.specs.Entry.{entry_length}
-use Rattle.cell.specs.declared.Answer.{Answer}
-use Rattle.cell.specs.declared.Answer.TheVariants as A
 use Rattle.cell.specs.Cell.{cell_structure, write_cell}
-use Rattle.cell.specs.Answer.{answer_of}
+use Rattle.cell.specs.Answer as A
+use Rattle.cell.specs.Answer.{Answer, answer_of}
 
 -- what writing answers where measuring answered a, given so much output and report
 pub record Agrees (out report : ℕ) (a b : Answer) : Type 0 where
-  pub refused : (r : Refusal) (k : ℕ) → a ≡ A.Refused r k → b ≡ A.Refused r k
-  pub output_short : (n c : ℕ) (g : Float) → a ≡ A.Accepted n c g → out < n → b ≡ A.Refused R.OutputShort 0
-  pub report_short : (n c : ℕ) (g : Float) → a ≡ A.Accepted n c g → n ≤ out → report < entry_length * c → b ≡ A.Refused R.ReportShort 0
-  pub accepted : (n c : ℕ) (g : Float) → a ≡ A.Accepted n c g → n ≤ out → entry_length * c ≤ report → b ≡ A.Accepted n c g
+  pub refused : (r : Refusal) (k : ℕ) → a ≡ A.refused r k → b ≡ A.refused r k
+  pub output_short : (n c : ℕ) (g : Float) → a ≡ A.accepted n c g → out < n → b ≡ A.refused R.OutputShort 0
+  pub report_short : (n c : ℕ) (g : Float) → a ≡ A.accepted n c g → n ≤ out → report < entry_length * c → b ≡ A.refused R.ReportShort 0
+  pub accepted : (n c : ℕ) (g : Float) → a ≡ A.accepted n c g → n ≤ out → entry_length * c ≤ report → b ≡ A.accepted n c g
 
 abbrev pub WritingAgrees : Type 0
 WritingAgrees = (policy : ℕ) (d : Float) (sheet : List ℕ) (out report : ℕ)

@@ -12,10 +12,9 @@ use Rattle.sheet.specs.Cell.{Cell, cell_of}
 use Rattle.stream.specs.Structure as D
 use Rattle.stream.specs.Drawn.{Transform, Worth, drawn_of}
 use Rattle.stream.specs.Read.{structure_of}
-use Rattle.cell.specs.declared.Answer.TheVariants as A
 use Rattle.cell.specs.Write.{single, box_points}
 use Rattle.cell.specs.Cell.{write_cell, out_after}
-use Rattle.cell.specs.Answer.{answer_of}
+use Rattle.cell.specs.Answer.{accepted, answer_of}
 
 -- ---- the physical values of a cell's points, in the sheet's order
 
@@ -97,5 +96,5 @@ pub record KeepsEdges (d : Float) (sheet bytes : List ℕ) : Type 0 where
 -- (Every f64 fits binary64, and every &[u8] is of bytes.)
 abbrev pub EdgesNeverCross : Type 0
 EdgesNeverCross = (policy : ℕ) (d : Float) (sheet out report : List ℕ) (n entries : ℕ) (greatest : Float) → T (fits binary64 d) → Bytes sheet
-    → answer_of (write_cell policy d sheet (length out) (length report)) ≡ A.Accepted n entries greatest
+    → answer_of (write_cell policy d sheet (length out) (length report)) ≡ accepted n entries greatest
     → KeepsEdges d sheet (take n (out_after (write_cell policy d sheet (length out) (length report)) out))

@@ -14,11 +14,8 @@ use Rattle.units.specs.declared.Unit.TheVariants as U
 use Rattle.units.specs.Point.{endpoint}
 use Rattle.units.specs.Physical.{units_of, physical, passed}
 use Rattle.conversion.specs.declared.GdsRoundingPolicy.{GdsRoundingPolicy}
-use Rattle.conversion.specs.declared.DatabaseValue.{DatabaseValue}
-use Rattle.conversion.specs.declared.DatabaseValue.TheVariants as D
 use Rattle.conversion.specs.Made.{refused, made, pure, ◌>>=◌}
 use Rattle.conversion.specs.Convert.{Spot, deviations, ranged, grid_value, database_value, convert_physical, physical_value, convert_by, convert_unit, array_endpoint}
-use Rattle.conversion.specs.code.Answer.{value_of}
 use Rattle.conversion.proofs.MadeLaws.{need-on, need-off, refused-on, pure-on}
 
 -- ---- the database value
@@ -48,16 +45,16 @@ value-infinite policy d p h = go (finite p) refl
     go true e = sym (need-on (finite p) R.NotFinite _ e ∙ need-off (finite (div binary64 p d)) R.NotFinite _ h)
     go false e = value-not-finite policy d p e
 
--- ---- a value and then its deviation, by the value's answer v
+-- ---- a value and then its deviation
 
 module _ (policy : GdsRoundingPolicy) (d p : Float) (at : Spot) where
-  pub physical-refused : (v : DatabaseValue) (r : Refusal) → v ≡ D.Refused r → value_of v ≡ database_value policy d p → refused r ≡ convert_physical policy d at p
+  pub physical-refused : (r : Refusal) → refused r ≡ database_value policy d p → refused r ≡ convert_physical policy d at p
   unfolding convert_physical
-  physical-refused v r e h = refused-on (database_value policy d p) _ r (sym (ap value_of e) ∙ h)
+  physical-refused r h = refused-on (database_value policy d p) _ r h
 
-  pub physical-made : (v : DatabaseValue) (q : ℤ) → v ≡ D.At q → value_of v ≡ database_value policy d p → made q (deviations d at p q) ≡ convert_physical policy d at p
+  pub physical-made : (q : ℤ) → pure q ≡ database_value policy d p → made q (deviations d at p q) ≡ convert_physical policy d at p
   unfolding convert_physical
-  physical-made v q e h = pure-on (database_value policy d p) (λ q. made q (deviations d at p q)) q (sym (ap value_of e) ∙ h)
+  physical-made q h = pure-on (database_value policy d p) (λ q. made q (deviations d at p q)) q h
 
 -- ---- a coordinate
 
@@ -110,7 +107,7 @@ module _ (policy : GdsRoundingPolicy) (d : Float) (at : Spot) (u : Unit) where
       go : (t : Bool) → finite (physical u) ≡ t → convert_physical policy d at (physical u) ≡ convert_by policy d at u none
       go true e = pure-on (physical_value u) (convert_physical policy d at) (physical u) (physical-finite u h (physical u) refl e)
       go false e =
-          sym (physical-refused policy d (physical u) at (D.Refused R.NotFinite) R.NotFinite refl (value-not-finite policy d (physical u) e))
+          sym (physical-refused policy d (physical u) at R.NotFinite (value-not-finite policy d (physical u) e))
           ∙ refused-on (physical_value u) (convert_physical policy d at) R.NotFinite (physical-infinite u h (physical u) refl e)
 
 -- ---- an endpoint; z is its whole number
@@ -120,13 +117,13 @@ module _ (d : Float) (at : Spot) (o a : ℤ) (n : ℕ) (p : Float) where
   unfolding array_endpoint
   endpoint-infinite h = sym (need-off (finite p) R.NotFinite _ h)
 
-  module _ (h : finite p ≡ true) (z : ℤ) (e : z ≡ endpoint o a n) (v : DatabaseValue) (k : value_of v ≡ ranged z) where
+  module _ (h : finite p ≡ true) (z : ℤ) (e : z ≡ endpoint o a n) where
     on : (ranged (endpoint o a n) >>= λ q. made q (deviations d at p q)) ≡ array_endpoint d at o a n p
     unfolding array_endpoint
     on = sym (need-on (finite p) R.NotFinite _ h)
 
-    pub endpoint-refused : (r : Refusal) → v ≡ D.Refused r → refused r ≡ array_endpoint d at o a n p
-    endpoint-refused r g = refused-on (ranged (endpoint o a n)) _ r (sym (ap value_of g) ∙ k ∙ ap ranged e) ∙ on
+    pub endpoint-refused : (r : Refusal) → refused r ≡ ranged z → refused r ≡ array_endpoint d at o a n p
+    endpoint-refused r k = refused-on (ranged (endpoint o a n)) _ r (k ∙ ap ranged e) ∙ on
 
-    pub endpoint-made : (q : ℤ) → v ≡ D.At q → made q (deviations d at p q) ≡ array_endpoint d at o a n p
-    endpoint-made q g = pure-on (ranged (endpoint o a n)) (λ q. made q (deviations d at p q)) q (sym (ap value_of g) ∙ k ∙ ap ranged e) ∙ on
+    pub endpoint-made : (q : ℤ) → pure q ≡ ranged z → made q (deviations d at p q) ≡ array_endpoint d at o a n p
+    endpoint-made q k = pure-on (ranged (endpoint o a n)) (λ q. made q (deviations d at p q)) q (k ∙ ap ranged e) ∙ on

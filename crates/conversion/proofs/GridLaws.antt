@@ -7,10 +7,9 @@ use native.Mathlib.Omega.{arith}
 use lib.Dec.{T, lit<}
 use lib.Pow.{pow_pos}
 use lib.IntN.{ℤ, pos, negsuc}
-use lib.Signed.{lt_z}
 use lib.Ieee.{Float, binary64, fits, round}
 use lib.Ieee.Scale.{finite}
-use borrow.Author.Tests.{ltb-true, ltb-false, lt-ltb, le-ltb}
+use borrow.Author.Tests.{ltb-true, lt-ltb, le-ltb}
 use mir.Val.{SFits}
 use mir.Syntax.{w32}
 use Rattle.binary64.specs.Value.{unit, negative, signed, round_away, floor_of, ceil_of}
@@ -20,56 +19,41 @@ use Rattle.binary64.proofs.WholeLaws.{nearest-up}
 use Rattle.binary64.proofs.PartsLaws.{round-parts, floor-parts, ceil-parts}
 use Rattle.binary64.proofs.NearestLaws.{nearest-parts, nearest-itself}
 use Rattle.binary64.proofs.StepLaws.{step-self}
+use Rattle.std.specs.Prelude.{Result, Ok, Err, OkIff, MatchResult, IsErrAnd}
+use Rattle.refusal.specs.declared.Refusal.{Refusal}
 use Rattle.refusal.specs.declared.Refusal.TheVariants as R
 use Rattle.conversion.specs.declared.GdsRoundingPolicy.{GdsRoundingPolicy}
 use Rattle.conversion.specs.declared.GdsRoundingPolicy.TheVariants.{Nearest, Floor, Ceil, ErrorIfOffGrid}
-use Rattle.conversion.specs.Made.{Made, refused, pure, ◌>>=◌, ◌>>◌}
+use Rattle.conversion.specs.Made.{Made, refused, pure, ◌>>=◌}
 use Rattle.conversion.specs.Convert.{on_grid, rounded, in_range, ranged, grid_value}
+use Rattle.conversion.specs.code.Answer.{made_of}
+use Rattle.conversion.proofs.CodeLaws.{handed-on}
 use Rattle.conversion.proofs.MadeLaws.{need-on, need-off, pure_then, refused-then}
 
 -- ---- the range of 32 bits
 
--- the least and the greatest
-abbrev pub least : ℤ
-least = negsuc 2147483647
-
-abbrev pub greatest : ℤ
-greatest = pos 2147483647
-
-range-under : (z : ℤ) → lt_z z least ≡ true → in_range z ≡ false
-range-under (pos n) h = let e : ◌≡◌ {A = ℕ} 0 1 = cc in absurd (omega arith)
-range-under (negsuc n) h = let k = ltb-true 2147483647 n h in le-ltb n (2 ^ 31) (omega arith)
-
-range-over : (z : ℤ) → lt_z greatest z ≡ true → in_range z ≡ false
-range-over (pos n) h = let k = ltb-true 2147483647 n h in le-ltb n (2 ^ 31) (omega arith)
-range-over (negsuc n) h = let e : ◌≡◌ {A = ℕ} 0 1 = cc in absurd (omega arith)
-
-range-within : (z : ℤ) → lt_z z least ≡ false → lt_z greatest z ≡ false → in_range z ≡ true
-range-within (pos n) h k = let l = ltb-false 2147483647 n k in lt-ltb n (2 ^ 31) (omega arith)
-range-within (negsuc n) h k = let l = ltb-false 2147483647 n h in lt-ltb n (2 ^ 31) (omega arith)
-
-pub range-fits : (z : ℤ) → in_range z ≡ true → SFits w32 z
+range-fits : (z : ℤ) → in_range z ≡ true → SFits w32 z
 range-fits (pos n) h = record { sfits = ltb-true n (2 ^ 31) h }
 range-fits (negsuc n) h = record { sfits = ltb-true n (2 ^ 31) h }
 
--- y is z as the machine reads it
-module _ (y z : ℤ) (e : y ≡ z) where
-  pub within-fits : lt_z y least ≡ false → lt_z greatest y ≡ false → SFits w32 y
-  within-fits h k = range-fits y (range-within y h k)
+fits-range : (z : ℤ) → SFits w32 z → in_range z ≡ true
+fits-range (pos n) f = lt-ltb n (2 ^ 31) f.sfits
+fits-range (negsuc n) f = lt-ltb n (2 ^ 31) f.sfits
 
-  pub ranged-within : lt_z y least ≡ false → lt_z greatest y ≡ false → (x : ℤ) → x ≡ y → pure x ≡ ranged z
-  unfolding ranged
-  ranged-within h k x f = ap (λ (i : ℤ). pure i) (f ∙ e) ∙ sym (need-on (in_range z) R.OutOfRange (pure z) (ap in_range (sym e) ∙ range-within y h k))
+unfit-range : (z : ℤ) → (SFits w32 z → ⊥) → in_range z ≡ false
+unfit-range z h = go (in_range z) refl
+  where
+    go : (t : Bool) → in_range z ≡ t → in_range z ≡ false
+    go true e = absurd (h (range-fits z e))
+    go false e = e
 
-  out : in_range y ≡ false → refused R.OutOfRange ≡ ranged z
-  unfolding ranged
-  out h = sym (need-off (in_range z) R.OutOfRange (pure z) (ap in_range (sym e) ∙ h))
-
-  pub ranged-under : lt_z y least ≡ true → refused R.OutOfRange ≡ ranged z
-  ranged-under h = out (range-under y h)
-
-  pub ranged-over : lt_z greatest y ≡ true → refused R.OutOfRange ≡ ranged z
-  ranged-over h = out (range-over y h)
+-- what `i32::try_from` gives of z, read as y, with any error taken for out of range
+pub ranged-of : {E : Type 0} (y z : ℤ) → y ≡ z → (r : Result ℤ E) → OkIff r (SFits w32 y) y → (w : Result ℤ Refusal)
+    → MatchResult r (λ x. w ≡ Ok x) (λ e. IsErrAnd w (λ x. x ≡ R.OutOfRange)) → made_of w ≡ ranged z
+unfolding ranged
+ranged-of y z e (Ok x) h w m =
+    ap made_of m ∙ ap (λ (i : ℤ). pure i) (h.1 ∙ e) ∙ sym (need-on (in_range z) R.OutOfRange (pure z) (ap in_range (sym e) ∙ fits-range y h.0))
+ranged-of y z e (Err x) h w m = handed-on R.OutOfRange w m ∙ sym (need-off (in_range z) R.OutOfRange (pure z) (ap in_range (sym e) ∙ unfit-range y h))
 
 far : (s : Bool) (n : ℕ) → 2 ^ 31 < n → in_range (signed s n) ≡ false
 far false n h = le-ltb n (2 ^ 31) (omega arith)
@@ -106,8 +90,8 @@ module _ (policy : GdsRoundingPolicy) (x : Float) where
 pub on-rounded : (policy : GdsRoundingPolicy) (x : Float) → on_grid x ≡ true → rounded policy x ≡ pure (round_away x)
 unfolding rounded
 on-rounded Nearest x h = refl
-on-rounded Floor x h = ap (λ (t : Bool). pure (cond t (round_away x) (floor_of x))) h
-on-rounded Ceil x h = ap (λ (t : Bool). pure (cond t (round_away x) (ceil_of x))) h
+on-rounded Floor x h = rw h
+on-rounded Ceil x h = rw h
 on-rounded ErrorIfOffGrid x h = need-on (on_grid x) R.OffGrid (pure (round_away x)) h
 
 pub grid-on : (policy : GdsRoundingPolicy) (x : Float) → on_grid x ≡ true → ranged (round_away x) ≡ grid_value policy x
@@ -121,16 +105,16 @@ module _ (x : Float) (s : Bool) (m j : ℕ) (p : PartsOf x s m j) where
   unfolding on_grid
   grid-test n e t h = ap (one_step x) (sym (ap (λ (z : Bool). round binary64 z n 1) p.sign ∙ nearest-parts x s m j p n e)) ∙ h
 
-  -- the answer r of a whole number of size n: the nearest, the one below and the one above
-  module _ (r : Made ℤ) (n : ℕ) (z : ℤ) (f : z ≡ signed s n) (h : r ≡ ranged z) where
-    pub nearest-value : n ≡ (2 * (m * 2 ^ j) + unit) / (2 * unit) → r ≡ ranged (round_away x)
-    nearest-value e = h ∙ ap ranged (f ∙ round-parts x s m j p n e)
+  -- a whole number of size n: the nearest, the one below and the one above
+  module _ (n : ℕ) where
+    pub nearest-value : n ≡ (2 * (m * 2 ^ j) + unit) / (2 * unit) → ranged (signed s n) ≡ ranged (round_away x)
+    nearest-value e = ap ranged (round-parts x s m j p n e)
 
-    pub floor-value : n ≡ cond s ((m * 2 ^ j + unit - 1) / unit) (m * 2 ^ j / unit) → (policy : GdsRoundingPolicy) → policy ≡ Floor → on_grid x ≡ false → r ≡ grid_value policy x
-    floor-value e policy k o = h ∙ ap ranged (f ∙ floor-parts x s m j p n e) ∙ grid-floor policy x k o
+    pub floor-value : n ≡ cond s ((m * 2 ^ j + unit - 1) / unit) (m * 2 ^ j / unit) → (policy : GdsRoundingPolicy) → policy ≡ Floor → on_grid x ≡ false → ranged (signed s n) ≡ grid_value policy x
+    floor-value e policy k o = ap ranged (floor-parts x s m j p n e) ∙ grid-floor policy x k o
 
-    pub ceil-value : n ≡ cond (not s) ((m * 2 ^ j + unit - 1) / unit) (m * 2 ^ j / unit) → (policy : GdsRoundingPolicy) → policy ≡ Ceil → on_grid x ≡ false → r ≡ grid_value policy x
-    ceil-value e policy k o = h ∙ ap ranged (f ∙ ceil-parts x s m j p n e) ∙ grid-ceil policy x k o
+    pub ceil-value : n ≡ cond (not s) ((m * 2 ^ j + unit - 1) / unit) (m * 2 ^ j / unit) → (policy : GdsRoundingPolicy) → policy ≡ Ceil → on_grid x ≡ false → ranged (signed s n) ≡ grid_value policy x
+    ceil-value e policy k o = ap ranged (ceil-parts x s m j p n e) ∙ grid-ceil policy x k o
 
   -- from 2 ^ 52 on a double is whole, and so on the grid; it is out of range
   pub grid-far : T (fits binary64 x) → T (finite x) → 1074 ≤ j → (policy : GdsRoundingPolicy) → refused R.OutOfRange ≡ grid_value policy x

@@ -1,5 +1,6 @@
 -- Laws of the definitions, and 01's rows computed by them.
 pub mod MadeLaws
+pub mod CodeLaws
 pub mod PolicyLaws
 pub mod FoldLaws
 pub mod EntryLaws

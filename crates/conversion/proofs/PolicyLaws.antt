@@ -8,14 +8,13 @@ use borrow.Author.Tests.{ne_eqb}
 use lib.Dec.{T}
 use lib.Ieee.{Float}
 use lib.Ieee.Positive.{positive}
+use Rattle.std.specs.Prelude.{Result, Ok, Err}
 use Rattle.refusal.specs.declared.Refusal.{Refusal}
 use Rattle.refusal.specs.declared.Refusal.TheVariants as R
 use Rattle.conversion.specs.declared.GdsRoundingPolicy.{GdsRoundingPolicy}
-use Rattle.conversion.specs.declared.CallerPolicy.{CallerPolicy}
-use Rattle.conversion.specs.declared.CallerPolicy.TheVariants as C
 use Rattle.conversion.specs.Made.{Made, refused, pure, need, ◌>>=◌, ◌>>◌}
 use Rattle.conversion.specs.Policy.{policy_of, max_policy, named, caller_policy}
-use Rattle.conversion.specs.code.Answer.{caller_of}
+use Rattle.conversion.specs.code.Answer.{made_of}
 use Rattle.conversion.proofs.MadeLaws.{need-on, need-off, pure_then, refused-then, refused-on, pure-on}
 
 -- no policy has a number above 3
@@ -54,9 +53,9 @@ caller n d = go (policy_of n) refl (positive d) refl
     go (some p) e false f = rw (caller-unit n d p e f) (no_unit p e (λ h. rw f at h))
 
 -- by the code's answer v: what comes of the checks and the step f that follows them
-module _ {A : Type 0} (n : ℕ) (d : Float) (f : GdsRoundingPolicy → Made A) (v : CallerPolicy) (h : caller_of v ≡ caller_policy n d) where
-  pub caller-refused : (r : Refusal) → v ≡ C.Refused r → refused r ≡ caller_policy n d >>= f
-  caller-refused r e = refused-on (caller_policy n d) f r (sym (ap caller_of e) ∙ h)
+module _ {A : Type 0} (n : ℕ) (d : Float) (f : GdsRoundingPolicy → Made A) (v : Result GdsRoundingPolicy Refusal) (h : made_of v ≡ caller_policy n d) where
+  pub caller-refused : (r : Refusal) → v ≡ Err r → refused r ≡ caller_policy n d >>= f
+  caller-refused r e = refused-on (caller_policy n d) f r (sym (ap made_of e) ∙ h)
 
-  pub caller-policy : (p : GdsRoundingPolicy) → v ≡ C.With p → f p ≡ caller_policy n d >>= f
-  caller-policy p e = pure-on (caller_policy n d) f p (sym (ap caller_of e) ∙ h)
+  pub caller-policy : (policy : GdsRoundingPolicy) → v ≡ Ok policy → f policy ≡ caller_policy n d >>= f
+  caller-policy policy e = pure-on (caller_policy n d) f policy (sym (ap made_of e) ∙ h)

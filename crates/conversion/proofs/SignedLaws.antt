@@ -1,5 +1,5 @@
 -- Signed numbers of 32 bits worked with in 64: origin + count * spacing fits. Assumes nothing.
-use mathlib.Core.Path.{◌≡◌, ap, ◌∙◌}
+use mathlib.Core.Path.{◌≡◌, sym, ap, ap₂, ◌∙◌, subst}
 use mathlib.Core.Bool.{Bool, true, false, not, cond}
 use Prim.Native.Nat.{ℕ, zero, suc, ◌+◌, ◌-◌, ◌*◌, ◌^◌, ◌≤◌, ◌<◌}
 use native.Mathlib.Nat.{le_trans, mul-le-mul_left, mul-le-mul_right}
@@ -7,9 +7,10 @@ use native.Mathlib.Omega.{arith}
 use lib.Dec.{T, ltb, ltb→lt, nltb→le}
 use lib.IntN.{ℤ, pos, negsuc, neg_ℤ, sub_ℕ, ◌+ℤ◌, ◌*ℤ◌}
 use lib.Signed.{mag}
-use mir.Val.{SFits, to_z, of_z}
+use Rattle.units.specs.Point.{endpoint}
+use mir.Val.{Fits, SFits, to_z, of_z}
 use mir.Syntax.{w32, w64}
-use mir.ValLaws.{to_z-of_z}
+use mir.ValLaws.{to_z-of_z, to_z_pos}
 
 pub wider : (z : ℤ) → SFits w32 z → SFits w64 z
 wider z f = record { sfits = go (mag z) f.sfits }
@@ -80,3 +81,29 @@ sum_fits (negsuc a) (negsuc b) f p = record { sfits = go a b f.sfits p.size }
   where
     go : (a b : ℕ) → a < 2 ^ 31 → b + 2 ^ 31 < 2 ^ 63 → suc (a + b) < 2 ^ 63
     go a b h k = omega arith
+
+-- as the machine reads it
+module _ (o a : ℤ) (n : ℕ) (f : SFits w32 o) (g : SFits w32 a) (h : Fits w32 n) where
+  product_small : Product (a *ℤ pos n)
+  product_small = product a n g (go n h.fits)
+    where
+      go : (n : ℕ) → n < 2 ^ 32 → n ≤ 4294967295
+      go n h = omega arith
+
+  product-is : to_z w64 (of_z w64 (to_z w32 (of_z w32 a))) *ℤ to_z w64 n ≡ a *ℤ pos n
+  product-is = ap₂ ◌*ℤ◌ (again a g) (to_z_pos w64 n (go n h.fits))
+    where
+      go : (n : ℕ) → n < 2 ^ 32 → n < 2 ^ 63
+      go n h = omega arith
+
+  pub product-read : SFits w64 (to_z w64 (of_z w64 (to_z w32 (of_z w32 a))) *ℤ to_z w64 n)
+  product-read = subst (SFits w64) (sym product-is) (product-fits _ product_small)
+
+  total-is : to_z w64 (of_z w64 (to_z w32 (of_z w32 o))) +ℤ to_z w64 (of_z w64 (to_z w64 (of_z w64 (to_z w32 (of_z w32 a))) *ℤ to_z w64 n)) ≡ endpoint o a n
+  total-is = ap₂ ◌+ℤ◌ (again o f) (ap (λ (y : ℤ). to_z w64 (of_z w64 y)) product-is ∙ to_z-of_z w64 _ (product-fits _ product_small))
+
+  pub sum_read : SFits w64 (to_z w64 (of_z w64 (to_z w32 (of_z w32 o))) +ℤ to_z w64 (of_z w64 (to_z w64 (of_z w64 (to_z w32 (of_z w32 a))) *ℤ to_z w64 n)))
+  sum_read = subst (SFits w64) (sym total-is) (sum_fits _ _ f product_small)
+
+  pub sum_is : to_z w64 (of_z w64 (to_z w64 (of_z w64 (to_z w32 (of_z w32 o))) +ℤ to_z w64 (of_z w64 (to_z w64 (of_z w64 (to_z w32 (of_z w32 a))) *ℤ to_z w64 n)))) ≡ endpoint o a n
+  sum_is = ap (λ (y : ℤ). to_z w64 (of_z w64 y)) total-is ∙ to_z-of_z w64 _ (sum_fits _ _ f product_small)

@@ -12,6 +12,7 @@ use lib.Ieee.Exact.{HasValue, round_exact}
 use lib.Ieee.Fits.{round-fits}
 use lib.Ieee.Scale.{finite}
 use borrow.Author.Tests.{leb-true, leb-false, le-leb, lt-leb}
+use Rattle.std.specs.Int.{abs_diff}
 use Rattle.binary64.specs.Value.{unit, negative, abs}
 use Rattle.binary64.specs.Step.{ordered_bits, ordered, one_step}
 use Rattle.binary64.proofs.ValueLaws.{sign-of-value}
@@ -53,11 +54,8 @@ abbrev pub within : ℕ → ℕ → Bool
 within a b = leb a (b + 1) && leb b (a + 1)
 
 -- as the code tests it: by the difference
-pub within-below : (a b : ℕ) → a < b → leb (b - a) 1 ≡ within a b
-within-below a b h = within-one (b - a) a b (λ l. record { left = omega arith; right = omega arith }) (λ n. omega arith)
-
-pub within-above : (a b : ℕ) → b ≤ a → leb (a - b) 1 ≡ within a b
-within-above a b h = within-one (a - b) a b (λ l. record { left = omega arith; right = omega arith }) (λ n. omega arith)
+pub within-diff : (a b : ℕ) → leb (abs_diff a b) 1 ≡ within a b
+within-diff a b = within-one (abs_diff a b) a b (λ l. record { left = omega arith; right = omega arith }) (λ n. omega arith)
 
 step-lower : (x y : Float) → T (fits binary64 x) → T (finite x) → T (fits binary64 y) → T (finite y) → negative x ≡ negative y → within (lower x) (lower y) ≡ one_step x y
 unfolding one_step

@@ -2,30 +2,29 @@
 // Nothing is required of the database unit d: the definitions say what each answer is for every double.
 #![tactic(auto)]
 
-ghost use Rattle.std.proofs.Math.Option.{some};
-ghost use Rattle.std.specs.Prelude.{◌≡◌, ◌+◌, ◌≤◌, ◌<◌, ◌^◌, length, T};
+ghost use Rattle.std.specs.Prelude.{◌≡◌, ◌+◌, ◌≤◌, ◌<◌, ◌^◌, length, T, Ok, IfOk, MatchResult};
 ghost use Rattle.std.specs.Float.{binary64};
 ghost use Rattle.std.specs.Float.Ieee.{round, div};
 ghost use Rattle.std.specs.Float.Ieee.Scale.{finite};
 ghost use Rattle.binary64.specs.Value.{negative};
 ghost use Rattle.binary64.specs.Step.{one_step};
-ghost use Rattle.conversion.specs.Made.{made};
-ghost use Rattle.conversion.specs.Policy.{policy_of, max_policy, caller_policy};
+ghost use Rattle.conversion.specs.Made.{refused, made, pure};
+ghost use Rattle.conversion.specs.Policy.{policy_of, named, caller_policy};
 ghost use Rattle.conversion.specs.Convert as Convert;
 ghost use Rattle.conversion.specs.Convert.{Spot, grid_value, database_value, deviations, convert_physical, physical_value, convert_unit, array_endpoint};
-ghost use Rattle.conversion.specs.code.Answer.{caller_of, outcome, value_of, physical_of, point_of};
+ghost use Rattle.conversion.specs.code.Answer.{made_of, outcome, point_of};
 ghost use Rattle.conversion.specs.Array as Array;
 ghost use Rattle.conversion.specs.Array.{endpoint_physical};
 ghost use Rattle.big_endian.specs.Buffer.{WroteAt};
 ghost use Rattle.conversion.specs.Entry.{takes, place_bytes, entry_bytes, entry_length};
-ghost use Rattle.conversion.specs.code.Fold.{blank_entry, place_length, noted, Spare};
+ghost use Rattle.conversion.specs.code.Fold.{blank_entry, represented_by, place_length, noted, Spare};
 
 use binary64::{Direction, SIGN};
 use refusal::Refusal;
 use units::Unit;
 
 // The rounding applied where a physical value is not on the grid.
-#[derive(Clone, Copy)]
+#[derive(Clone, Copy, Debug, PartialEq, Eq)]
 pub enum GdsRoundingPolicy {
     Nearest,
     Floor,
@@ -33,10 +32,24 @@ pub enum GdsRoundingPolicy {
     ErrorIfOffGrid,
 }
 
-// The greatest number of a policy.
-const MAX_POLICY: u8 = 3;
+impl TryFrom<u8> for GdsRoundingPolicy {
+    type Error = Refusal;
 
-// A report entry's fields (document 01, "Result three"; specs/Field.antt).
+    ghost try_from_gives = { λ n r. made_of r ≡ named (policy_of n) };
+
+    // The policy of a number up to 3.
+    fn try_from(n: u8) -> Result<GdsRoundingPolicy, Refusal> {
+        match n {
+            0 => Ok(GdsRoundingPolicy::Nearest),
+            1 => Ok(GdsRoundingPolicy::Floor),
+            2 => Ok(GdsRoundingPolicy::Ceil),
+            3 => Ok(GdsRoundingPolicy::ErrorIfOffGrid),
+            _ => Err(Refusal::Policy),
+        }
+    }
+}
+
+// A report entry's fields (document 01, "Result three"; specs/Field.antt). Fields, axes and kinds stay numbers: document 01 stores an entry's bytes as integers of any value, and an enum would take fewer from callers than `Entry` does.
 pub const POINT_FIELD: u8 = 0;
 
 pub const WIDTH_FIELD: u8 = 1;
@@ -65,41 +78,9 @@ pub const Y_AXIS: u8 = 1;
 
 pub const NO_AXIS: u8 = 2;
 
-// The least and the greatest database value: those of 32 bits.
-const LEAST: i64 = -2147483648;
-
-const GREATEST: i64 = 2147483647;
-
-// From this power of two on, in units of 2 ^ -1074, a double is a whole number of 2 ^ 52 or more.
-const WHOLE: u64 = 1074;
-
-// The policy of a caller who has passed its first checks, or the first that failed.
-#[derive(Clone, Copy)]
-pub enum CallerPolicy {
-    Refused { refusal: Refusal },
-    With { policy: GdsRoundingPolicy },
-}
-
-// A database value, or why there is none.
-#[derive(Clone, Copy)]
-pub enum DatabaseValue {
-    Refused { refusal: Refusal },
-    At { value: i32 },
-}
-
-// A physical value, or why there is none.
-#[derive(Clone, Copy)]
-pub enum PhysicalValue {
-    Refused { refusal: Refusal },
-    At { value: f64 },
-}
-
-// A refusal; or the database value; or that with a deviation that counts.
-#[derive(Clone, Copy)]
+// The database value, or that with a deviation that counts.
+#[derive(Clone, Copy, Debug, PartialEq)]
 pub enum Conversion {
-    Refused {
-        refusal: Refusal,
-    },
     Converted {
         value: i32,
     },
@@ -111,123 +92,78 @@ pub enum Conversion {
 }
 
 // What every conversion goes by: the rounding policy, and the database unit d (gdsr's `database_units`).
-#[derive(Clone, Copy)]
+#[derive(Clone, Copy, Debug, PartialEq)]
 pub struct CoordinateConverter {
     pub policy: GdsRoundingPolicy,
     pub d: f64,
 }
 
 // The physical values of a point.
-#[derive(Clone, Copy)]
+#[derive(Clone, Copy, Debug, PartialEq)]
 pub struct PhysicalPoint {
     pub x: f64,
     pub y: f64,
 }
 
-// The policy of a number up to 3.
-fn policy_of(n: u8) -> GdsRoundingPolicy
-    requires { n ≤ max_policy }
-    ensures { policy_of n ≡ some result }
-{
-    if n == 0 {
-        return GdsRoundingPolicy::Nearest;
-    }
-    if n == 1 {
-        return GdsRoundingPolicy::Floor;
-    }
-    if n == 2 {
-        return GdsRoundingPolicy::Ceil;
-    }
-    GdsRoundingPolicy::ErrorIfOffGrid
+// The database values of a point.
+#[derive(Clone, Copy, Debug, PartialEq, Eq)]
+pub struct DatabasePoint {
+    pub x: i32,
+    pub y: i32,
 }
 
-// A caller's first checks: the policy's number, then the database unit.
-pub fn caller_policy(n: u8, d: f64) -> CallerPolicy
-    ensures { caller_of result ≡ caller_policy n d }
+// A caller's first checks: the policy's number, then the database unit. A caller in C hands a number, and refusal 1 is of the number.
+pub fn caller_policy(n: u8, d: f64) -> Result<GdsRoundingPolicy, Refusal>
+    ensures { made_of result ≡ caller_policy n d }
 {
-    if n > MAX_POLICY {
-        return CallerPolicy::Refused {
-            refusal: Refusal::Policy,
-        };
-    }
-    let policy = policy_of(n);
+    let policy = GdsRoundingPolicy::try_from(n)?;
     if binary64::is_positive(d) {
-        return CallerPolicy::With { policy };
-    }
-    CallerPolicy::Refused {
-        refusal: Refusal::DatabaseUnit,
+        Ok(policy)
+    } else {
+        Err(Refusal::DatabaseUnit)
     }
 }
 
 // A whole number, if 32 bits hold it.
-fn ranged(z: i64) -> DatabaseValue
-    ensures { value_of result ≡ Convert.ranged z }
+fn ranged(z: i64) -> Result<i32, Refusal>
+    ensures { made_of result ≡ Convert.ranged z }
 {
-    if z < LEAST {
-        return DatabaseValue::Refused {
-            refusal: Refusal::OutOfRange,
-        };
-    }
-    if GREATEST < z {
-        return DatabaseValue::Refused {
-            refusal: Refusal::OutOfRange,
-        };
-    }
-    DatabaseValue::At { value: z as i32 }
+    i32::try_from(z).map_err(|_| Refusal::OutOfRange)
 }
 
 // Whether s is within one step of the whole number n with the sign of s: their bits but the sign differ by one at most.
 fn on_grid(s: f64, n: u64) -> bool
-    requires t { T (finite s) }
+    requires s_finite { T (finite s) }
     requires n_bound { n < 2 ^ 53 }
     ensures { result ≡ one_step s (round binary64 (negative s) n 1) }
 {
-    let a = f64::to_bits(s) % SIGN;
-    let b = f64::to_bits(n as f64);
-    if a < b { b - a <= 1 } else { a - b <= 1 }
+    let a = s.to_bits() % SIGN;
+    let b = (n as f64).to_bits();
+    a.abs_diff(b) <= 1
 }
 
 // The database value of a scaled value.
-fn grid_value(policy: GdsRoundingPolicy, s: f64) -> DatabaseValue
+fn grid_value(policy: GdsRoundingPolicy, s: f64) -> Result<i32, Refusal>
     requires { T (finite s) }
-    ensures { value_of result ≡ grid_value policy s }
+    ensures { made_of result ≡ grid_value policy s }
 {
     let u = binary64::unpack(s);
     let negative = u.negative;
     let digits = u.digits;
     let power = u.power;
-    if power >= WHOLE {
-        return DatabaseValue::Refused {
-            refusal: Refusal::OutOfRange,
-        };
+    // a whole number of 2 ^ 52 or more
+    if power >= binary64::ONE_POWER {
+        return Err(Refusal::OutOfRange);
     }
     let n = binary64::size_toward(Direction::Nearest, negative, digits, power);
-    let nearest = ranged(binary64::with_sign(negative, n));
-    match policy {
-        GdsRoundingPolicy::Nearest => nearest,
-        GdsRoundingPolicy::Floor => {
-            if on_grid(s, n) {
-                return nearest;
-            }
-            let down = binary64::size_toward(Direction::Down, negative, digits, power);
-            ranged(binary64::with_sign(negative, down))
-        }
-        GdsRoundingPolicy::Ceil => {
-            if on_grid(s, n) {
-                return nearest;
-            }
-            let up = binary64::size_toward(Direction::Up, negative, digits, power);
-            ranged(binary64::with_sign(negative, up))
-        }
-        GdsRoundingPolicy::ErrorIfOffGrid => {
-            if on_grid(s, n) {
-                return nearest;
-            }
-            DatabaseValue::Refused {
-                refusal: Refusal::OffGrid,
-            }
-        }
-    }
+    let size = match policy {
+        GdsRoundingPolicy::Nearest => n,
+        _ if on_grid(s, n) => n,
+        GdsRoundingPolicy::Floor => binary64::size_toward(Direction::Down, negative, digits, power),
+        GdsRoundingPolicy::Ceil => binary64::size_toward(Direction::Up, negative, digits, power),
+        GdsRoundingPolicy::ErrorIfOffGrid => return Err(Refusal::OffGrid),
+    };
+    ranged(binary64::with_sign(negative, size))
 }
 
 // q * d - p, two roundings.
@@ -240,7 +176,7 @@ fn difference(d: f64, p: f64, q: i32) -> f64
 // A database value q with its deviation, if that counts. s is p / d, which every caller has.
 fn quantization(d: f64, p: f64, s: f64, q: i32) -> Conversion
     requires { s ≡ div binary64 p d }
-    ensures { (at : Spot) → outcome at result ≡ made q (deviations d at p q) }
+    ensures { (at : Spot) → outcome at (Ok result) ≡ made q (deviations d at p q) }
 {
     if binary64::within_one_ulp(s, q as f64) {
         return Conversion::Converted { value: q };
@@ -258,90 +194,87 @@ fn quantization(d: f64, p: f64, s: f64, q: i32) -> Conversion
 }
 
 // The physical value of a coordinate, in a unit that is finite and positive.
-pub fn physical_value(u: Unit) -> PhysicalValue
-    ensures { physical_of result ≡ physical_value u }
+pub fn physical_value(u: Unit) -> Result<f64, Refusal>
+    ensures { made_of result ≡ physical_value u }
 {
-    if binary64::is_positive(u.units()) {
-        let p = u.absolute_value();
-        if binary64::is_finite(p) {
-            return PhysicalValue::At { value: p };
-        }
-        return PhysicalValue::Refused {
-            refusal: Refusal::NotFinite,
-        };
+    if !binary64::is_positive(u.units()) {
+        return Err(Refusal::SourceUnit);
     }
-    PhysicalValue::Refused {
-        refusal: Refusal::SourceUnit,
+    let p = u.absolute_value();
+    if binary64::is_finite(p) {
+        Ok(p)
+    } else {
+        Err(Refusal::NotFinite)
     }
 }
 
 impl CoordinateConverter {
-    // The database value of a physical value, whatever field it stands in.
-    pub fn database_value(self, p: f64) -> DatabaseValue
-        ensures { value_of result ≡ database_value self.policy self.d p }
+    // The converter of a caller who has passed the first checks.
+    pub fn of_caller(policy: u8, d: f64) -> Result<CoordinateConverter, Refusal>
+        ensures policy { MatchResult result (λ c. pure c.policy ≡ caller_policy policy d) (λ r. refused r ≡ caller_policy policy d) }
+        ensures unit { IfOk result (λ c. c.d ≡ d) }
     {
-        let policy = self.policy;
+        let policy = caller_policy(policy, d)?;
+        Ok(CoordinateConverter { policy, d })
+    }
+
+    // The database value of a physical value, whatever field it stands in.
+    pub fn database_value(self, p: f64) -> Result<i32, Refusal>
+        ensures { made_of result ≡ database_value self.policy self.d p }
+    {
         let s = p / self.d;
         if binary64::is_finite(s) {
-            grid_value(policy, s)
+            grid_value(self.policy, s)
         } else {
-            DatabaseValue::Refused {
-                refusal: Refusal::NotFinite,
-            }
+            Err(Refusal::NotFinite)
         }
     }
 
     // A physical value to the grid.
-    pub fn convert_physical(self, p: f64) -> Conversion
+    pub fn convert_physical(self, p: f64) -> Result<Conversion, Refusal>
         ensures { (at : Spot) → outcome at result ≡ convert_physical self.policy self.d at p }
     {
-        let policy = self.policy;
         let s = p / self.d;
-        if binary64::is_finite(s) {
-            match grid_value(policy, s) {
-                DatabaseValue::Refused { refusal } => Conversion::Refused { refusal },
-                DatabaseValue::At { value } => quantization(self.d, p, s, value),
-            }
-        } else {
-            Conversion::Refused {
-                refusal: Refusal::NotFinite,
-            }
+        if !binary64::is_finite(s) {
+            return Err(Refusal::NotFinite);
         }
+        let value = grid_value(self.policy, s)?;
+        Ok(quantization(self.d, p, s, value))
     }
 
     // A coordinate to the grid: an integer whose unit equals d passes unchanged. A physical value that is not finite is refused by the test of its quotient.
-    pub fn convert_unit(self, u: Unit) -> Conversion
+    pub fn convert_unit(self, u: Unit) -> Result<Conversion, Refusal>
         ensures { (at : Spot) → outcome at result ≡ convert_unit self.policy self.d at u }
     {
         let d = self.d;
         if let Unit::Integer { value, units } = u {
             if units == d {
-                return Conversion::Converted { value };
+                return Ok(Conversion::Converted { value });
             }
         }
         if binary64::is_positive(u.units()) {
-            return self.convert_physical(u.absolute_value());
-        }
-        Conversion::Refused {
-            refusal: Refusal::SourceUnit,
+            self.convert_physical(u.absolute_value())
+        } else {
+            Err(Refusal::SourceUnit)
         }
     }
 
     // An array's endpoint: origin + count * spacing in whole numbers, with its physical value p.
-    pub fn checked_array_endpoint(self, origin: i32, spacing: i32, count: u32, p: f64) -> Conversion
+    pub fn checked_array_endpoint(
+        self,
+        origin: i32,
+        spacing: i32,
+        count: u32,
+        p: f64,
+    ) -> Result<Conversion, Refusal>
         ensures { (at : Spot) → outcome at result ≡ array_endpoint self.d at origin spacing count p }
     {
-        if binary64::is_finite(p) {
-            let z = (origin as i64) + (spacing as i64) * (count as i64);
-            match ranged(z) {
-                DatabaseValue::Refused { refusal } => Conversion::Refused { refusal },
-                DatabaseValue::At { value } => quantization(self.d, p, p / self.d, value),
-            }
-        } else {
-            Conversion::Refused {
-                refusal: Refusal::NotFinite,
-            }
+        if !binary64::is_finite(p) {
+            return Err(Refusal::NotFinite);
         }
+        let z = (origin as i64) + (spacing as i64) * (count as i64);
+        let value = ranged(z)?;
+        Ok(quantization(self.d, p, p / self.d, value))
     }
 }
 
@@ -363,7 +296,7 @@ pub fn endpoint_physical(spacing: f64, count: u32, origin: f64) -> f64
 }
 
 // One quantized field: which one, its physical value p, its database value q, and the error q * d - p with its sign.
-#[derive(Clone, Copy)]
+#[derive(Clone, Copy, Debug, PartialEq)]
 pub struct Deviation {
     pub field: u8,
     pub axis: u8,
@@ -374,7 +307,7 @@ pub struct Deviation {
 }
 
 // A report entry: the deviations of one element, counted, with one of the largest magnitude to stand for them.
-#[derive(Clone, Copy)]
+#[derive(Clone, Copy, Debug, PartialEq)]
 pub struct Entry {
     pub index: u32,
     pub kind: u8,
@@ -393,19 +326,28 @@ impl Entry {
         requires { Spare 1 self }
         ensures { result ≡ takes self v }
     {
-        self.count = self.count + 1;
+        self.count += 1;
         let held = binary64::abs(self.error);
         let new = binary64::abs(v.error);
         if held < new {
-            self.field = v.field;
-            self.axis = v.axis;
-            self.place = v.place;
-            self.physical = v.physical;
-            self.database = v.database;
-            self.error = v.error;
-            return self;
+            return self.of(v);
         }
         self
+    }
+
+    // With another representative.
+    fn of(self, v: Deviation) -> Entry
+        ensures { result ≡ represented_by self v }
+    {
+        Entry {
+            field: v.field,
+            axis: v.axis,
+            place: v.place,
+            physical: v.physical,
+            database: v.database,
+            error: v.error,
+            ..self
+        }
     }
 
     // No deviation yet: count 0.
@@ -431,17 +373,7 @@ impl Entry {
         ensures { result ≡ noted self v }
     {
         if self.count == 0 {
-            return Entry {
-                index: self.index,
-                kind: self.kind,
-                field: v.field,
-                axis: v.axis,
-                place: v.place,
-                count: 1,
-                physical: v.physical,
-                database: v.database,
-                error: v.error,
-            };
+            return Entry { count: 1, ..self }.of(v);
         }
         self.add(v)
     }

@@ -1,6 +1,6 @@
 -- An element with its options: the parts' checks behind that of the flags, and their bytes with two records behind the first. Assumes nothing.
 use mathlib.Core.Path.{◌≡◌, refl, sym, ap, ap₂, ◌∙◌, subst}
-use mathlib.Core.Bool.{Bool, true, false, cond}
+use mathlib.Core.Bool.{Bool, true, false}
 use mathlib.Core.List.{List, [], ◌++◌, append_assoc}
 use Prim.Native.Nat.{ℕ, ◌+◌, ◌*◌, ◌^◌, ◌≤◌, ◌<◌}
 use native.Mathlib.Omega.{arith}
@@ -8,14 +8,18 @@ use lib.ListN.{length, take, drop, length-append, length-drop}
 use lib.Seq.{length-take-le}
 use lib.IntN.{ℤ}
 use lib.Ieee.{Float}
-use mir.Val.{Fits, to_z, of_z}
+use mir.Val.{to_z}
 use mir.Syntax.{w32}
 use Rattle.big_endian.specs.Big.{Bytes, number, number_at, bytes_of}
 use Rattle.big_endian.specs.Buffer.{WroteAt}
 use Rattle.big_endian.proofs.BigLaws.{length-bytes_of, number-back, number_lt}
 use Rattle.big_endian.proofs.BytesLaws.{take-bytes, drop-bytes, bytes-bytes_of, number-once}
 use Rattle.big_endian.proofs.BufferLaws.{same_bytes}
+use Rattle.std.specs.Prelude.{Result, Ok, Err}
 use Rattle.refusal.specs.declared.Refusal.TheVariants as R
+use Rattle.std.specs.Prelude as Code
+use Rattle.std.specs.Bool.{then_some}
+use Rattle.std.specs.Option.{is_some, option_map, MatchOption, IsSomeAnd}
 use Rattle.conversion.specs.declared.GdsRoundingPolicy.{GdsRoundingPolicy}
 use Rattle.conversion.specs.declared.Entry.{Entry}
 use Rattle.conversion.specs.Made.{Made, refused, made, pure, ◌>>=◌}
@@ -29,19 +33,16 @@ use Rattle.stream.specs.Records.{empty_record, bits_record, long_record, body_re
 use Rattle.stream.proofs.AppendLaws.{code_of, body-append, first-is, element-first}
 use Rattle.stream.proofs.BytesLaws.{stream-append}
 use Rattle.cell.specs.Write.{flags_fit, write_body, write_properties, write_element}
-use Rattle.records.specs.code.Bytes.{Placed, opt_bytes, option_of}
+use Rattle.records.specs.code.Bytes.{Placed, opt_bytes, opt_length, option_of}
 use Rattle.records.proofs.RecordLaws.{placed, then-placed, length-record, opt-is}
-use Rattle.steps.specs.declared.Measured.{Measured}
-use Rattle.steps.specs.declared.Measured.TheVariants as M
-use Rattle.steps.specs.code.Steps.{sizing}
+use Rattle.steps.specs.code.Steps.{through, sizing}
 use Rattle.steps.proofs.StepLaws.{run-through}
 use Rattle.block_places.specs.declared.Options.{Options}
 use Rattle.block_places.specs.declared.ElementPlaces.{ElementPlaces}
-use Rattle.block_places.specs.code.Places.{flags_of, plex_of, size_if, shift_of, options_at, element_places}
-use Rattle.block_places.proofs.UnitLaws.{back, four-small}
+use Rattle.block_places.specs.code.Places.{option_as, flags_of, plex_of, size_if, shift_of, options_at, element_places}
 use Rattle.properties.specs.code.Tail.{tail_bytes}
 use Rattle.bodies.specs.code.Body.{body_bytes}
-use Rattle.elements.specs.code.Block.{Parts, write_parts, parts_bytes, options_length, options_bytes, longer, PutsOptions, Short}
+use Rattle.elements.specs.code.Block.{Parts, write_parts, parts_bytes, options_length, options_bytes, longer, PutsOptions}
 
 -- ---- bytes
 
@@ -77,16 +78,16 @@ element-bytes o p =
 pub first-length : (p : Parts) → length (first_bytes p) ≡ 4
 first-length p = length-record (empty_record (code_of p.body))
 
-opt-length : {A : Type 0} (f : A → Rec) (t : Bool) (v : A) (n : ℕ) → ((a : A) → 4 + length (f a).content ≡ n) → length (opt_bytes f (option_of t v)) ≡ size_if t n
+opt-long : {A B : Type 0} (f : B → Rec) (g : A → B) (o : Code.Option A) (n : ℕ) → ((b : B) → 4 + length (f b).content ≡ n) → length (opt_bytes f (option_as g o)) ≡ size_if (is_some o) n
 unfolding opt_bytes
-opt-length f true v n h = length-record (f v) ∙ h v
-opt-length f false v n h = refl
+opt-long f g (Code.Some a) n h = length-record (f (g a)) ∙ h (g a)
+opt-long f g Code.None n h = refl
 
 pub options-length : (o : Options) → length (options_bytes o) ≡ options_length o
 unfolding options_bytes
 options-length o =
-    let a = opt-length (bits_record ELFLAGS) o.flagged o.flags 6 (λ v. refl) in
-    let b = opt-length (long_record PLEX) o.plexed (to_z w32 o.plex) 8 (λ v. refl) in
+    let a = opt-long (bits_record ELFLAGS) (λ n. n) o.flags 6 (λ v. refl) in
+    let b = opt-long (long_record PLEX) (to_z w32) o.plex 8 (λ v. refl) in
     length-append (opt_bytes (bits_record ELFLAGS) (flags_of o)) (opt_bytes (long_record PLEX) (plex_of o)) ∙ ap₂ ◌+◌ a b
 
 pub element-length : (o : Options) (p : Parts) → length (element_bytes (joined o p)) ≡ length (parts_bytes p) + options_length o
@@ -102,13 +103,13 @@ element-length o p =
 -- the options take at most four times their part of the block
 pub options-short : (b : List ℕ) {o : Options} → o ≡ options_at b → options_length o ≤ 4 * o.shift
 unfolding options_at shift_of
-options-short b {o} e = rw e (go (raised flags_raise (number_at 1 b 0)) (raised plex_raise (number_at 1 b 0)))
+options-short b {o} e = rw e (go (raised flags_raise (number_at 1 b 0)) (raised plex_raise (number_at 1 b 0)) _ _)
   where
-    go : (f p : Bool) → size_if f 6 + size_if p 8 ≤ 4 * (size_if f 2 + size_if p 4)
-    go true true = omega arith
-    go true false = omega arith
-    go false true = omega arith
-    go false false = omega arith
+    go : (f p : Bool) (m n : ℕ) → size_if (is_some (then_some f m)) 6 + size_if (is_some (then_some p n)) 8 ≤ 4 * (size_if f 2 + size_if p 4)
+    go true true m n = omega arith
+    go true false m n = omega arith
+    go false true m n = omega arith
+    go false false m n = omega arith
 
 -- ---- checks
 
@@ -137,25 +138,16 @@ module _ (policy : GdsRoundingPolicy) (d : Float) (o : Options) (x : Body) (qs :
 
   -- measured: the parts, and the options' bytes more
   pub measured-with : (e : Entry) → flags_fit (flags_of o) ≡ true
-      → run M.Refused e (write_element policy d (element_with o x qs)) (sizing element_bytes) ≡ longer (options_length o) (run M.Refused e (write_parts policy d x qs) (sizing parts_bytes))
+      → run Err e (write_element policy d (element_with o x qs)) (sizing element_bytes) ≡ longer (options_length o) (run Err e (write_parts policy d x qs) (sizing parts_bytes))
   unfolding sizing run
   measured-with e h =
-      ap (λ (m : Made Said). run M.Refused e m (sizing element_bytes)) (by_parts h)
-      ∙ through (write_parts policy d x qs)
-      ∙ sym (run-through M.Refused (sizing parts_bytes) (longer (options_length o)) M.Refused (λ p e'. sizing element_bytes (joined o p) e') (λ r. refl) (λ p e'. ap (λ (n : ℕ). M.Through n e') (sym (element-length o p))) e (write_parts policy d x qs))
+      ap (λ (m : Made Said). run Err e m (sizing element_bytes)) (by_parts h)
+      ∙ by-map (write_parts policy d x qs)
+      ∙ sym (run-through Err (sizing parts_bytes) (longer (options_length o)) Err (λ p e'. sizing element_bytes (joined o p) e') (λ r. refl) (λ p e'. ap (λ (n : ℕ). through n e') (sym (element-length o p))) e (write_parts policy d x qs))
     where
-      through : (m : Made Parts) → run M.Refused e (mapped (joined o) m) (sizing element_bytes) ≡ run M.Refused e m (λ p e'. sizing element_bytes (joined o p) e')
-      through (refused r) = refl
-      through (made p vs) = refl
-
-pub short-up : {n m : ℕ} (t : Measured) → n ≤ m → Short n t → Short m t
-short-up (M.Refused r) l s = tt
-short-up (M.Through k x) l s = omega arith
-
--- what is measured with the options is short where the parts are, in a block that has the options' bytes more
-pub short-with : (b : List ℕ) {o : Options} → o ≡ options_at b → (n : ℕ) → n + o.shift ≡ length b → (t : Measured) → Short n t → Short (length b) (longer (options_length o) t)
-short-with b e n h (M.Refused r) s = tt
-short-with b e n h (M.Through l x) s = let k = options-short b e in omega arith
+      by-map : (m : Made Parts) → run Err e (mapped (joined o) m) (sizing element_bytes) ≡ run Err e m (λ p e'. sizing element_bytes (joined o p) e')
+      by-map (refused r) = refl
+      by-map (made p vs) = refl
 
 -- ---- the options in the output
 
@@ -168,24 +160,31 @@ first-number d n h l =
     let m : length s ≡ 4 = length-take-le 4 (drop n d) (simp length-drop (omega arith)) in
     number-once (bytes_of 4 (number s)) s (bytes-bytes_of 4 (number s)) k (length-bytes_of 4 (number s) ∙ sym m) (number-back 4 (number s) (subst (λ (j : ℕ). number s < 256 ^ j) m (number_lt s k)))
 
--- the first record, then each option's
-pub options-put : (o : Options) (v n : ℕ) {z : ℤ} {d d₁ d₂ d₃ : List ℕ} {a c r : ℕ} → Bytes d → n ≡ options_length o → n + 4 ≤ length d → v ≡ number_at 4 d n → Fits w32 o.plex → z ≡ to_z w32 o.plex
-    → WroteAt (bytes_of 4 v) d d₁ 0 a → Placed (opt_bytes (bits_record ELFLAGS) (option_of o.flagged o.flags)) (cond o.flagged 6 0) d₁ d₂ a c
-    → Placed (opt_bytes (long_record PLEX) (option_of o.plexed (to_z w32 (of_z w32 z)))) (cond o.plexed 8 0) d₂ d₃ c r → PutsOptions o d d₃ r
-unfolding options_bytes
-options-put o v n {z} {d} {d₁} {d₂} {d₃} {a} {c} {r} h e l f p g w x y =
-    let signed : to_z w32 (of_z w32 z) ≡ to_z w32 o.plex = ap (λ (i : ℤ). to_z w32 (of_z w32 i)) g ∙ back o.plex p.fits in
-    let first : bytes_of 4 v ≡ take 4 (drop (options_length o) d) = ap (bytes_of 4) f ∙ first-number d n h l ∙ ap (λ (k : ℕ). take 4 (drop k d)) e in
-    then-placed (placed (same_bytes first w) (sym (ap length (sym first) ∙ length-bytes_of 4 v))) (then-placed x (subst (λ (i : ℤ). Placed (opt_bytes (long_record PLEX) (option_of o.plexed i)) (cond o.plexed 8 0) d₂ d₃ c r) signed y))
+-- an option's record, of the number q that the code has of it
+opt-put : {A B : Type 0} (f : B → Rec) (g : A → B) (n : ℕ) (o : Code.Option A) {q : Code.Option B} {d d' : List ℕ} {at to : ℕ} → q ≡ option_map g o
+    → Placed (opt_bytes f (option_of q)) (opt_length n q) d d' at to → Placed (opt_bytes f (option_as g o)) (size_if (is_some o) n) d d' at to
+opt-put f g n (Code.Some a) e p = rw e at p
+opt-put f g n Code.None e p = rw e at p
 
--- the plex number of a block of bytes is one of four
-pub plex-fits : (b : List ℕ) {o : Options} → o ≡ options_at b → Bytes b → 1 + shift_of (number_at 1 b 0) ≤ length b → Fits w32 o.plex
-unfolding options_at shift_of
-plex-fits b {o} e h l = rw e (go (raised flags_raise (number_at 1 b 0)) (raised plex_raise (number_at 1 b 0)) l)
-  where
-    go : (f p : Bool) → 1 + (size_if f 2 + size_if p 4) ≤ length b → Fits w32 (cond p (number_at 4 b (1 + size_if f 2)) 0)
-    go f true l = record { fits = four-small b (1 + size_if f 2) (omega arith) h }
-    go f false l = record { fits = omega arith }
+-- what `map` gives
+pub mapped-by : {A B : Type 0} (g : A → B) (o : Code.Option A) (q : Code.Option B) {P : A → B → Type 0} → MatchOption o (q ≡ Code.None) (λ a. IsSomeAnd q (P a)) → ((a : A) (b : B) → P a b → b ≡ g a) → q ≡ option_map g o
+mapped-by g (Code.Some a) (Code.Some b) h f = ap Code.Some (f a b h)
+mapped-by g (Code.Some a) Code.None h f = absurd h
+mapped-by g Code.None q h f = h
+
+itself : {A : Type 0} (o : Code.Option A) → o ≡ option_map (λ n. n) o
+itself (Code.Some a) = refl
+itself Code.None = refl
+
+-- the first record, then each option's
+pub options-put : (o : Options) (v n : ℕ) {q : Code.Option ℤ} {d d₁ d₂ d₃ : List ℕ} {a c r : ℕ} → Bytes d → n ≡ options_length o → n + 4 ≤ length d → v ≡ number_at 4 d n → q ≡ option_map (to_z w32) o.plex
+    → WroteAt (bytes_of 4 v) d d₁ 0 a → Placed (opt_bytes (bits_record ELFLAGS) (option_of o.flags)) (opt_length 6 o.flags) d₁ d₂ a c
+    → Placed (opt_bytes (long_record PLEX) (option_of q)) (opt_length 8 q) d₂ d₃ c r → PutsOptions o d d₃ r
+unfolding options_bytes
+options-put o v n {d = d} h e l f g w x y =
+    let first : bytes_of 4 v ≡ take 4 (drop (options_length o) d) = ap (bytes_of 4) f ∙ first-number d n h l ∙ ap (λ (k : ℕ). take 4 (drop k d)) e in
+    then-placed (placed (same_bytes first w) (sym (ap length (sym first) ∙ length-bytes_of 4 v)))
+    (then-placed (opt-put (bits_record ELFLAGS) (λ n. n) 6 o.flags (itself o.flags) x) (opt-put (long_record PLEX) (to_z w32) 8 o.plex g y))
 
 -- the options among the places of an element
 pub options-are : (b : List ℕ) {p : ElementPlaces} → p ≡ element_places b → p.options ≡ options_at b

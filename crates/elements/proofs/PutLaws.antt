@@ -30,7 +30,7 @@ use Rattle.block_places.specs.declared.BodyPlaces.{BodyPlaces}
 use Rattle.block_places.specs.declared.PropertyPlaces.{PropertyPlaces}
 use Rattle.block_places.specs.declared.Options.{Options}
 use Rattle.block_places.specs.declared.ElementPlaces.{ElementPlaces}
-use Rattle.forms.specs.declared.ElementForm.TheVariants as E
+use Rattle.std.specs.Prelude.{Some}
 use Rattle.block_places.specs.code.Place.{place_from, property_end}
 use Rattle.block_places.specs.code.Places.{body_at, properties_at, flags_of, shifted, body_end_in, element_places, ElementIn}
 use Rattle.forms.specs.code.Checks.{ElementRead}
@@ -146,8 +146,8 @@ module _ (policy : GdsRoundingPolicy) (d : Float) (b part : List ℕ) (f : Fits 
     abbrev q : PropertyPlaces
     q = p.properties
 
-    read : ElementRead b (E.Element o s q)
-    read = subst (λ (x : ElementPlaces). ElementRead b (E.Element x.options x.body x.properties)) (sym h) held.read
+    read : ElementRead b (Some p)
+    read = rw h held.read
 
     pub inside : ElementIn z s q
     inside = subst (λ (l : List ℕ). ElementIn l s q) (sym g) read.places.parts_in

@@ -2,8 +2,6 @@
 #![tactic(auto)]
 
 ghost use Rattle.std.specs.Prelude.{◌≡◌, ◌+◌, ◌≤◌, length};
-ghost use Rattle.std.specs.Int.{w32};
-ghost use mir.Val as Val;
 ghost use Rattle.conversion.specs.code.Fold.{Spare};
 ghost use Rattle.sheet.specs.Element.{element_of};
 ghost use Rattle.cell.specs.Limits.{max_sheet_length};
@@ -17,7 +15,6 @@ ghost use Rattle.elements.specs.code.Block.{write_parts, parts_bytes, options_le
 
 use block_places::{BodyPlaces, Options, PropertyPlaces};
 use conversion::{CoordinateConverter, Entry};
-use forms::ElementForm;
 use records::{BIT_ARRAY, ELFLAGS, LONG_RECORD, PLEX, WORD_RECORD};
 use refusal::Refusal;
 use steps::{Measured, Written};
@@ -30,18 +27,15 @@ const MAX_FLAGS: u16 = 3;
 fn flags_fit(options: Options) -> bool
     ensures { result ≡ flags_fit (flags_of options) }
 {
-    if options.flagged {
-        return options.flags <= MAX_FLAGS;
-    }
-    true
+    options.flags.is_none_or(|flags| flags <= MAX_FLAGS)
 }
 
 // The bytes of their records.
 fn options_length(options: Options) -> usize
     ensures { (result ≡ options_length options) × (result ≤ max_options_length) }
 {
-    let flags = block_places::size_if(options.flagged, WORD_RECORD);
-    flags + block_places::size_if(options.plexed, LONG_RECORD)
+    let flags = block_places::size_if(options.flags.is_some(), WORD_RECORD);
+    flags + block_places::size_if(options.plex.is_some(), LONG_RECORD)
 }
 
 // ---- measuring
@@ -53,74 +47,39 @@ fn measure_parts(
     body: BodyPlaces,
     properties: PropertyPlaces,
     entry: Entry,
-) -> Measured
+) -> Result<Measured, Refusal>
     requires b_len_bound { length b.now ≤ max_sheet_length }
     requires element_in { ElementIn b.now body properties }
     requires spare { Spare max_deviations entry }
     ensures measures { Measures parts_bytes entry (write_parts converter.policy converter.d (body_at b.now body) (properties_at b.now properties)) result }
     ensures short { Short (length b.now) result }
 {
-    match bodies::measure_body(converter, b, body, entry) {
-        Measured::Refused { refusal } => Measured::Refused { refusal },
-        Measured::Through { length, entry: e } => match properties::measure_tail(b, properties, e) {
-            Measured::Refused { refusal: refusal2 } => Measured::Refused { refusal: refusal2 },
-            Measured::Through {
-                length: more,
-                entry: e2,
-            } => {
-                let size = length + more;
-                Measured::Through {
-                    length: size,
-                    entry: e2,
-                }
-            }
-        },
-    }
+    let front = bodies::measure_body(converter, b, body, entry)?;
+    let tail = properties::measure_tail(b, properties, front.entry)?;
+    let length = front.length + tail.length;
+    Ok(Measured { length, ..tail })
 }
 
-// The parts with the options' records.
-fn measure_options(options: Options, parts: Measured) -> Measured
-    requires { Short max_sheet_length parts }
-    ensures { result ≡ longer (options_length options) parts }
-{
-    match parts {
-        Measured::Refused { refusal: first } => Measured::Refused { refusal: first },
-        Measured::Through { length, entry } => {
-            let whole = length + options_length(options);
-            Measured::Through {
-                length: whole,
-                entry,
-            }
-        }
-    }
-}
-
-// The block's form first, then its flags.
-pub fn measure_element(converter: CoordinateConverter, b: &[u8], index: u32) -> Measured
+// The block's form first, then its flags; then the parts, with the options' records.
+pub fn measure_element(
+    converter: CoordinateConverter,
+    b: &[u8],
+    index: u32,
+) -> Result<Measured, Refusal>
     requires { length b.now ≤ max_sheet_length }
     ensures value { result ≡ measured_block converter.policy converter.d index (element_of b.now) }
     ensures short { Short (length b.now) result }
 {
-    match forms::element(b) {
-        ElementForm::Ill => Measured::Refused {
-            refusal: Refusal::Form,
-        },
-        ElementForm::Element {
-            options,
-            body,
-            properties,
-        } => {
-            if !flags_fit(options) {
-                return Measured::Refused {
-                    refusal: Refusal::Flags,
-                };
-            }
-            let rest = block_places::block_from(b, options.shift);
-            let blank = Entry::blank(index, block_places::plain_kind(b));
-            let parts = measure_parts(converter, rest, body, properties, blank);
-            measure_options(options, parts)
-        }
+    let element = forms::element(b).ok_or(Refusal::Form)?;
+    let options = element.options;
+    if !flags_fit(options) {
+        return Err(Refusal::Flags);
     }
+    let rest = block_places::block_from(b, options.shift);
+    let blank = Entry::blank(index, block_places::plain_kind(b));
+    let parts = measure_parts(converter, rest, element.body, element.properties, blank)?;
+    let length = parts.length + options_length(options);
+    Ok(Measured { length, ..parts })
 }
 
 // ---- writing
@@ -146,15 +105,13 @@ fn put_parts(
 
 // The options behind the first record: the parts stand as many bytes further on as these take, and their first record goes to the start.
 fn put_options(options: Options, part: &mut [u8]) -> usize
-    requires fits { Val.Fits w32 options.plex }
     requires options_in_bounds { record_head + options_length options ≤ length part.old }
     ensures { PutsOptions options part.old part.new result }
 {
     let first = big_endian::u32_at(part, options_length(options));
     let a = big_endian::put_u32_at(part, 0, first);
-    let b = records::put_opt_two_at(part, a, ELFLAGS, BIT_ARRAY, options.flagged, options.flags);
-    let plex = big_endian::as_i32(options.plex);
-    records::put_opt_long_at(part, b, PLEX, options.plexed, plex)
+    let b = records::put_opt_two_at(part, a, ELFLAGS, BIT_ARRAY, options.flags);
+    records::put_opt_long_at(part, b, PLEX, options.plex.map(u32::cast_signed))
 }
 
 // The block's element into the part of the output that starts where the last one ended. Measuring has checked the form, so its parts are read by their places alone.

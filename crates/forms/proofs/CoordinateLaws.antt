@@ -1,6 +1,6 @@
--- A coordinate, a point and a spacing by their places: one law for each way out of their checks. Assumes nothing.
+-- A coordinate by its place: one law for each way out of its check. Assumes nothing.
 use mathlib.Core.Path.{◌≡◌, refl, ap, ◌∙◌}
-use mathlib.Core.Bool.{Bool, true, false, cond, not, ◌&&◌}
+use mathlib.Core.Bool.{Bool, true, false, cond, ◌&&◌}
 use mathlib.Core.Option.{Option, none, some}
 use mathlib.Core.List.{List}
 use Prim.Native.Nat.{ℕ, ◌+◌, ◌*◌, ◌≤◌, ◌<◌}
@@ -15,10 +15,10 @@ use Rattle.big_endian.proofs.PlaceLaws.{number-eight}
 use Rattle.units.specs.declared.Unit.{Unit}
 use Rattle.units.specs.declared.Unit.TheVariants as U
 use Rattle.parsing.specs.Parse.{Part, ill, part, IllFormed, ill_formed, pure, fail, follow, when, present}
-use Rattle.sheet.specs.Form.{integer_kind, double_kind, absent_kind, coordinate_of, coordinate, point, spacing_of, spacing}
-use Rattle.block_places.specs.code.Place.{double_at, unit_at, coordinate_at, point_at, spacing_at}
+use Rattle.sheet.specs.Form.{integer_kind, double_kind, absent_kind, coordinate_of, coordinate}
+use Rattle.block_places.specs.code.Place.{double_at, unit_at, coordinate_at}
 use Rattle.forms.specs.code.Checks.{given, Checked}
-use Rattle.forms.proofs.Step.{on, off, moved, num-at, when-is}
+use Rattle.forms.proofs.Step.{on, num-at, when-is}
 
 -- ---- a coordinate
 
@@ -82,67 +82,3 @@ module _ (b : List ℕ) (at : ℕ) (h : at + 17 ≤ length b) where
       go : (t : Bool) → follow (when ill_formed t (pure {A = Option Unit} none) (drop (at + 17) b)) (present ill_formed) ≡ ill ill_formed
       go true = refl
       go false = refl
-
-module _ (b : List ℕ) (at : ℕ) where
-  pub given-there : {to : ℕ} {r : Bool} → eqb (number_at 1 b at) absent_kind ≡ false → Checked coordinate b at (coordinate_at b at) to r
-      → Checked given b at (unit_at b at) to r
-  unfolding coordinate_at
-  given-there {to} {r} e w = record { is = ap (λ (z : Part IllFormed ℕ (Option Unit)). follow z (present ill_formed)) w.is ∙ go r e }
-    where
-      go : (r : Bool) → eqb (number_at 1 b at) absent_kind ≡ false
-          → follow (cond r (part (coordinate_at b at) (drop to b)) (ill ill_formed)) (present ill_formed) ≡ cond r (part (unit_at b at) (drop to b)) (ill ill_formed)
-      go true e = rw e
-      go false e = refl
-
-  -- ---- a point
-
-  pub point-x : given (drop at b) ≡ ill ill_formed → point (drop at b) ≡ ill ill_formed
-  unfolding point
-  point-x e = off _ _ e
-
-  fold : at + 17 + 17 ≡ at + 34
-  fold = omega arith
-
-  pub point-y : {r : Bool} → given (drop at b) ≡ part (unit_at b at) (drop (at + 17) b) → Checked given b (at + 17) (unit_at b (at + 17)) (at + 17 + 17) r
-      → Checked point b at (point_at b at) (at + 34) r
-  unfolding point point_at
-  point-y {r} e w = record { is = on _ _ e (go r w.is) }
-    where
-      go : (r : Bool) → given (drop (at + 17) b) ≡ cond r (part (unit_at b (at + 17)) (drop (at + 17 + 17) b)) (ill ill_formed)
-          → follow (given (drop (at + 17) b)) (λ y. pure (record { x = unit_at b at; y = y })) ≡ cond r (part (point_at b at) (drop (at + 34) b)) (ill ill_formed)
-      go true f = on _ _ (moved b (at + 17 + 17) (at + 34) fold f) refl
-      go false f = off _ _ f
-
-  -- ---- a spacing
-
-  pub spacing-x : coordinate (drop at b) ≡ ill ill_formed → spacing (drop at b) ≡ ill ill_formed
-  unfolding spacing
-  spacing-x e = off _ _ e
-
-  module _ (e : coordinate (drop at b) ≡ part (coordinate_at b at) (drop (at + 17) b)) where
-    pub spacing-y : coordinate (drop (at + 17) b) ≡ ill ill_formed → spacing (drop at b) ≡ ill ill_formed
-    unfolding spacing
-    spacing-y f = on _ _ e (off _ _ f)
-
-    -- both coordinates or neither
-    module _ (f : coordinate (drop (at + 17) b) ≡ part (coordinate_at b (at + 17)) (drop (at + 17 + 17) b)) where
-      spacing-by : spacing (drop at b) ≡ spacing_of (coordinate_at b at) (coordinate_at b (at + 17)) (drop (at + 34) b)
-      unfolding spacing
-      spacing-by = on _ _ e (on _ _ (moved b (at + 17 + 17) (at + 34) fold f) refl)
-
-      pub spacing-absent : eqb (number_at 1 b at) absent_kind ≡ true → Checked spacing b at (spacing_at b at) (at + 34) (eqb (number_at 1 b (at + 17)) absent_kind)
-      unfolding spacing_of coordinate_at spacing_at
-      spacing-absent x = record { is = spacing-by ∙ rw x (go (eqb (number_at 1 b (at + 17)) absent_kind)) }
-        where
-          go : (t : Bool) → spacing_of none (cond t none (some (unit_at b (at + 17)))) (drop (at + 34) b) ≡ cond t (part none (drop (at + 34) b)) (ill ill_formed)
-          go true = refl
-          go false = refl
-
-      pub spacing-there : eqb (number_at 1 b at) absent_kind ≡ false → Checked spacing b at (spacing_at b at) (at + 34) (not (eqb (number_at 1 b (at + 17)) absent_kind))
-      unfolding spacing_of coordinate_at spacing_at point_at
-      spacing-there x = record { is = spacing-by ∙ rw x (go (eqb (number_at 1 b (at + 17)) absent_kind)) }
-        where
-          go : (t : Bool) → spacing_of (some (unit_at b at)) (cond t none (some (unit_at b (at + 17)))) (drop (at + 34) b)
-              ≡ cond (not t) (part (some (point_at b at)) (drop (at + 34) b)) (ill ill_formed)
-          go true = refl
-          go false = refl

@@ -7,11 +7,11 @@ use native.Mathlib.Omega.{arith}
 use lib.Dec.{leb, ltb}
 use lib.ListN.{length, drop, length-drop}
 use borrow.Author.Tests.{leb-true, leb-false, ltb-true, ltb-false}
+use Rattle.std.specs.Prelude.{None, Some}
 use Rattle.parsing.specs.Parse.{ill, part, ill_formed, ended}
 use Rattle.sheet.specs.Form.{num}
 use Rattle.sheet.specs.Element.{Head, head_form, head_of}
 use Rattle.block_places.specs.declared.HeadPlaces.{HeadPlaces}
-use Rattle.forms.specs.declared.HeadForm.TheVariants as H
 use Rattle.block_places.specs.code.Place.{words_from, string_at, string_end}
 use Rattle.block_places.specs.code.Places.{head_at}
 use Rattle.forms.specs.code.Checks.{HeadRead}
@@ -20,11 +20,11 @@ use Rattle.forms.proofs.Sized.{sized-num, sized-times, string-needs}
 use Rattle.forms.proofs.Walk.{words-at}
 
 module _ (b : List ℕ) where
-  head-ill : head_form b ≡ ill ill_formed → HeadRead b H.Ill
+  head-ill : head_form b ≡ ill ill_formed → HeadRead b None
   unfolding head_of
   head-ill e = record { form = ap ended e; places = tt }
 
-  pub head-bare : length b < 2 → HeadRead b H.Ill
+  pub head-bare : length b < 2 → HeadRead b None
   unfolding head_form
   head-bare l = head-ill (off _ _ (string-needs b l))
 
@@ -37,14 +37,14 @@ module _ (b : List ℕ) where
     head-by l = on _ _ (string-at b 0 p e (omega arith)) (on _ _ (words-at 12 b p (p + 24) refl l) refl)
 
     -- a long name, a short rest, or bytes left over
-    pub head-other : (length b ≡ p + 24 → ⊥) → HeadRead b H.Ill
+    pub head-other : (length b ≡ p + 24 → ⊥) → HeadRead b None
     unfolding head_form head_of
     head-other n = go (leb p (length b)) refl (ltb (length b) (p + 24)) refl
       where
         left_over : p + 24 ≤ length b → p + 24 < length b
         left_over l = omega arith
 
-        go : (t : Bool) → leb p (length b) ≡ t → (u : Bool) → ltb (length b) (p + 24) ≡ u → HeadRead b H.Ill
+        go : (t : Bool) → leb p (length b) ≡ t → (u : Bool) → ltb (length b) (p + 24) ≡ u → HeadRead b None
         go false q u r = let x = leb-false p (length b) q in head-ill (off _ _ (string-long b 0 h (omega arith)))
         go true q true r =
             let x = leb-true p (length b) q in
@@ -54,7 +54,7 @@ module _ (b : List ℕ) where
             let y = ltb-false (length b) (p + 24) r in
             record { form = ends-not b _ (p + 24) (head-by y) (left_over y); places = tt }
 
-    pub head-is : (s : HeadPlaces) → length b ≡ p + 24 → s.name ≡ 0 → s.stamps ≡ p → HeadRead b (H.Head s)
+    pub head-is : (s : HeadPlaces) → length b ≡ p + 24 → s.name ≡ 0 → s.stamps ≡ p → HeadRead b (Some s)
     unfolding head_of head_at
     head-is s l p1 p2 =
         record {

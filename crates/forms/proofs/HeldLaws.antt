@@ -11,6 +11,8 @@ use lib.Seq.{drop-drop}
 use mir.Val.{to_z}
 use mir.Syntax.{w32}
 use borrow.Author.Tests.{eqb-true, eqb-false}
+use Rattle.std.specs.Prelude.{Some}
+use Rattle.std.specs.Bool.{then_some}
 use Rattle.big_endian.specs.Big.{number_at}
 use Rattle.parsing.specs.Parse.{Part, ill, part, IllFormed, ill_formed, pure, fail, follow, map, present, when, times, ended, ◌>>=◌}
 use Rattle.parsing.proofs.ParseLaws.{no_part}
@@ -20,9 +22,8 @@ use Rattle.sheet.specs.Element.{Property, Body, Element, box, polygon_kind, path
 use Rattle.block_places.specs.declared.BodyPlaces.{BodyPlaces}
 use Rattle.block_places.specs.declared.BodyPlaces.TheVariants as B
 use Rattle.block_places.specs.code.Place.{values_from, place_from, double_at, unit_at, coordinate_at, point_at, point_end, points_from, spacing_at, string_at, string_end, property_at, property_end, properties_from}
-use Rattle.block_places.specs.code.Places.{path_type_of, shape_at, path_at, text_at, reference_at, box_at, body_at, shape_places, path_places, text_places, reference_places, box_places, body_places, body_end, flags_of, plex_of, size_if, shift_of, options_at, shifted, body_in, body_end_in, element_places, BodyIn}
+use Rattle.block_places.specs.code.Places.{path_type_of, shape_at, path_at, text_at, reference_at, box_at, body_at, shape_places, path_places, text_places, reference_places, box_places, body_places, body_end, option_as, flags_of, plex_of, size_if, shift_of, options_at, shifted, body_in, body_end_in, element_places, BodyIn}
 use Rattle.block_places.proofs.PlacesLaws.{by_kind}
-use Rattle.forms.specs.declared.ElementForm.TheVariants as E
 use Rattle.forms.specs.code.Checks.{given, Checked, ElementRead}
 use Rattle.forms.proofs.Step.{on, moved, items_at, num-at, double-at, code_at, ends, ends-not}
 use Rattle.forms.proofs.Sized.{Sized, sized-bytes, sized-num, sized-code, sized-double, sized-coordinate}
@@ -230,7 +231,7 @@ module _ (b : List ℕ) where
   -- ---- options
 
   stands-optional : {A : Type 0} (t : Bool) (p : Form A) (value : ℕ → A) (k at : ℕ) → Stands p b at (value (number_at k b at)) (at + k)
-      → Stands (optional t p) b at (cond t (some (value (cond t (number_at k b at) 0))) none) (at + size_if t k)
+      → Stands (optional t p) b at (option_as value (then_some t (number_at k b at))) (at + size_if t k)
   unfolding optional
   stands-optional true p value k at g = stands-bind p _ g stands-pure
   stands-optional false p value k at g = subst (Stands (pure none) b at none) (omega arith) stands-pure
@@ -292,7 +293,7 @@ module _ (b : List ℕ) where
 
   -- what the block holds is read by its places, which lie in it
   pub record Held : Type 0 where
-    pub read : ElementRead b (E.Element (element_places b).options (element_places b).body (element_places b).properties)
+    pub read : ElementRead b (Some (element_places b))
     pub room : end + 2 ≤ length (shifted b)
 
   pub element-held : (e : Element) → element_of b ≡ some e → Held

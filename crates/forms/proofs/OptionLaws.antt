@@ -11,6 +11,7 @@ use lib.Seq.{drop-drop}
 use mir.Val.{to_z}
 use mir.Syntax.{w32}
 use borrow.Author.Tests.{leb-true, leb-false, eqb-true}
+use Rattle.std.specs.Bool.{then_some}
 use Rattle.big_endian.specs.Big.{number_at}
 use Rattle.big_endian.proofs.PlaceLaws.{move}
 use Rattle.parsing.specs.Parse.{Part, ill, part, IllFormed, ill_formed, pure, follow, when, map, ended, ◌>>=◌}
@@ -18,7 +19,7 @@ use Rattle.parsing.proofs.ParseLaws.{no_part}
 use Rattle.sheet.specs.Form.{Form, num, counted, optional, long}
 use Rattle.sheet.specs.Element.{Property, Body, polygon, path, text, node, reference, box, Element, polygon_kind, path_kind, text_kind, node_kind, reference_kind, box_kind, kind_of, flags_raise, plex_raise, kind_limit, raised, plain_kind, property, shape_form, path_form, text_form, reference_form, box_form, body_form, element_form, element_of}
 use Rattle.block_places.specs.declared.Options.{Options}
-use Rattle.block_places.specs.code.Places.{flags_of, plex_of, size_if, shift_of, options_at}
+use Rattle.block_places.specs.code.Places.{option_as, flags_of, plex_of, size_if, shift_of, options_at}
 use Rattle.forms.specs.code.Checks.{options_in}
 use Rattle.forms.proofs.Step.{on, off, num-at}
 use Rattle.forms.proofs.Sized.{Sized, sized-pure, sized-bind, sized-num, needs-bind, needs-front}
@@ -38,10 +39,10 @@ pub long-at : (b : List ℕ) (at to : ℕ) → at + 4 ≡ to → to ≤ length b
 unfolding long
 long-at b at to e h = on _ _ (num-at 4 b at to e h) refl
 
--- of k bytes, which p reads as `value` of their number; `options_at` has 0 for what is absent
+-- of k bytes, which p reads as `value` of their number
 pub option-at : {A : Type 0} (t : Bool) (p : Form A) (value : ℕ → A) (k : ℕ) (b : List ℕ) (at : ℕ)
     → (at + k ≤ length b → p (drop at b) ≡ part (value (number_at k b at)) (drop (at + k) b)) → at + size_if t k ≤ length b
-    → optional t p (drop at b) ≡ part (cond t (some (value (cond t (number_at k b at) 0))) none) (drop (at + size_if t k) b)
+    → optional t p (drop at b) ≡ part (option_as value (then_some t (number_at k b at))) (drop (at + size_if t k) b)
 unfolding optional
 option-at true p value k b at g h = on _ _ (g h) refl
 option-at false p value k b at g h = ap (λ (r : List ℕ). part none r) (move b at (at + 0) (omega arith))

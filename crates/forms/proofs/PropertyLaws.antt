@@ -4,11 +4,11 @@ use mathlib.Core.List.{List}
 use Prim.Native.Nat.{ℕ, ◌+◌, ◌-◌, ◌≤◌, ◌<◌}
 use native.Mathlib.Omega.{arith}
 use lib.ListN.{length, drop, length-drop}
+use Rattle.std.specs.Prelude.{None, Some}
 use Rattle.big_endian.specs.Big.{number_at}
 use Rattle.parsing.specs.Parse.{Part, ill, part, IllFormed, ill_formed, ended, times}
 use Rattle.sheet.specs.Form.{Form, num, string, counted}
 use Rattle.sheet.specs.Element.{property}
-use Rattle.forms.specs.declared.PropertiesForm.TheVariants as P
 use Rattle.block_places.specs.code.Place.{place_from, property_at, property_end, properties_from}
 use Rattle.forms.specs.code.Checks.{PropertiesRead}
 use Rattle.forms.proofs.Step.{on, off, num-at, string-at, string-long, ends, ends-not}
@@ -46,19 +46,19 @@ unfolding counted
 counted-at p b at n {z} h e f = on _ _ (num-at 2 b at (at + 2) refl h) (subst (λ (k : ℕ). times k p (drop (at + 2) b) ≡ z) e f)
 
 module _ (b : List ℕ) (at : ℕ) where
-  pub properties-short : at ≤ length b → length b < at + 2 → PropertiesRead b at P.Ill
+  pub properties-short : at ≤ length b → length b < at + 2 → PropertiesRead b at None
   properties-short h l = record { form = ap ended (counted-needs property (drop at b) (simp length-drop (omega arith))); places = tt }
 
   module _ (n : ℕ) (h : at + 2 ≤ length b) (e : n ≡ number_at 2 b at) where
-    pub properties-ill : times n property (drop (at + 2) b) ≡ ill ill_formed → PropertiesRead b at P.Ill
+    pub properties-ill : times n property (drop (at + 2) b) ≡ ill ill_formed → PropertiesRead b at None
     properties-ill f = record { form = ap ended (counted-at property b at n h e f); places = tt }
 
     module _ (end : ℕ) (f : times n property (drop (at + 2) b) ≡ part (properties_from n b (at + 2)) (drop end b)) where
-      pub properties-long : end ≤ length b → (end ≡ length b → ⊥) → PropertiesRead b at P.Ill
+      pub properties-long : end ≤ length b → (end ≡ length b → ⊥) → PropertiesRead b at None
       properties-long l g = record { form = ends-not b _ end (counted-at property b at n h e f) (less end (length b) l g); places = tt }
         where
           less : (i j : ℕ) → i ≤ j → (i ≡ j → ⊥) → i < j
           less i j h g = omega arith
 
-      pub properties-are : place_from property_end n b (at + 2) ≡ end → end ≡ length b → PropertiesRead b at (P.Properties (record { count = n; place = at + 2 }))
+      pub properties-are : place_from property_end n b (at + 2) ≡ end → end ≡ length b → PropertiesRead b at (Some (record { count = n; place = at + 2 }))
       properties-are g l = record { form = ends b _ end (counted-at property b at n h e f) l; places = record { first-in = h; last-in = g ∙ l } }

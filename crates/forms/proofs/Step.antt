@@ -11,9 +11,9 @@ use lib.Seq.{drop-drop}
 use borrow.Author.Tests.{le-leb, lt-leb}
 use Rattle.big_endian.specs.Big.{number, number_at}
 use Rattle.big_endian.proofs.PlaceLaws.{move}
-use Rattle.parsing.specs.Parse.{Part, ill, part, Parse, IllFormed, ill_formed, pure, follow, when, ended, ◌>>=◌}
+use Rattle.parsing.specs.Parse.{Part, ill, part, Parse, IllFormed, ill_formed, pure, follow, when, ended}
 use Rattle.parsing.proofs.ParseLaws.{items-is}
-use Rattle.sheet.specs.Form.{Form, bytes, num, code, flag, double, string}
+use Rattle.sheet.specs.Form.{bytes, num, code, flag, double, string}
 use Rattle.block_places.specs.code.Place.{double_at, string_at, string_end}
 use Rattle.forms.specs.code.Checks.{Checked}
 
@@ -46,9 +46,11 @@ unfolding num number_at
 num-at k b at to e h = ap (λ (y : Part IllFormed ℕ (List ℕ)). follow y (λ a. pure (number a))) (items_at k b at to e h)
 
 -- layer and type, after the kind byte
-pub layer-type : {A : Type 0} (b : List ℕ) (f : ℕ → ℕ → Form A) {z : Part IllFormed ℕ A} → 5 ≤ length b → f (number_at 2 b 1) (number_at 2 b 3) (drop 5 b) ≡ z
-    → (num 2 >>= λ l. num 2 >>= λ t. f l t) (drop 1 b) ≡ z
-layer-type b f h e = on _ _ (num-at 2 b 1 3 refl (omega arith)) (on _ _ (num-at 2 b 3 5 refl h) e)
+pub layer-at : (b : List ℕ) → 5 ≤ length b → num 2 (drop 1 b) ≡ part (number_at 2 b 1) (drop 3 b)
+layer-at b h = num-at 2 b 1 3 refl (omega arith)
+
+pub type-at : (b : List ℕ) → 5 ≤ length b → num 2 (drop 3 b) ≡ part (number_at 2 b 3) (drop 5 b)
+type-at b h = num-at 2 b 3 5 refl h
 
 pub double-at : (b : List ℕ) (at to : ℕ) → at + 8 ≡ to → to ≤ length b → double (drop at b) ≡ part (double_at b at) (drop to b)
 unfolding double
@@ -65,14 +67,7 @@ unfolding string
 string-long b at h l =
     on _ _ (num-at 2 b at (at + 2) refl h) (items-short (number_at 2 b at) (drop (at + 2) b) (simp length-drop (omega arith)))
 
--- ---- a check that answers yes or no, as the code asks it: `if !check { .. }`
-
-module _ {A : Type 0} {p : Form A} {b : List ℕ} {at : ℕ} {a : A} {to : ℕ} where
-  pub checked : {r : Bool} → Checked p b at a to r → r ≡ true → p (drop at b) ≡ part a (drop to b)
-  checked w e = w.is ∙ ap (λ (t : Bool). cond t (part a (drop to b)) (ill ill_formed)) e
-
-  pub failed : {r : Bool} → Checked p b at a to r → r ≡ false → p (drop at b) ≡ ill ill_formed
-  failed w e = w.is ∙ ap (λ (t : Bool). cond t (part a (drop to b)) (ill ill_formed)) e
+-- ---- a check of one byte
 
 -- what stands after a test
 pub when-is : {A : Type 0} (t : Bool) (a : A) (s : List ℕ) → when ill_formed t (pure a) s ≡ cond t (part a s) (ill ill_formed)

@@ -12,13 +12,13 @@ ghost use Rattle.forms.specs.code.Checks.{given, Checked, LengthsChecked, Proper
 
 use block_places::{
     ABSENT, AFTER_NAME, BEGIN, BOX, BOX_END, BodyPlaces, COLUMN_SPACING, COORDINATE, END,
-    FIRST_CORNER, HEAD_NAME, HORIZONTAL, HeadPlaces, INTEGER, INTEGERS, KINDS, NAME, NAME_BYTES,
-    NO_PATH_TYPE, NODE, NUMBER, ORIGIN, Options, PATH, PATH_POINTS, PATH_TYPE, POINT, POLYGON,
+    ElementPlaces, FIRST_CORNER, HEAD_NAME, HORIZONTAL, HeadPlaces, INTEGER, INTEGERS, KINDS, NAME,
+    NAME_BYTES, NO_PATH_TYPE, NODE, NUMBER, ORIGIN, PATH, PATH_POINTS, PATH_TYPE, POINT, POLYGON,
     PropertyPlaces, REFERENCE, REFLECTED, REFLECTION, ROW_SPACING, SECOND_CORNER, SHAPE_POINTS,
     STAMPS, STRING, STRING_BYTES, TEXT, TEXT_ORIGIN, TEXT_REFLECTION, UNIT, VALUE, VERTICAL, WIDTH,
 };
 
-// The kind byte of a coordinate that is a double.
+// The kind byte of a coordinate that is a double: a byte, as the kinds of `block_places` are.
 const DOUBLE: u8 = 1;
 
 // The greatest codes: "path type byte (0, 1, 2; 255 absent)", "vertical (0–2), horizontal (0–2)".
@@ -26,35 +26,11 @@ const MAX_PATH_TYPE: u8 = 2;
 
 const MAX_PRESENTATION: u8 = 2;
 
-// What the checks of a block answer: the places, or that it is ill-formed.
-#[derive(Clone, Copy)]
-pub enum HeadForm {
-    Ill,
-    Head { places: HeadPlaces },
-}
-
-#[derive(Clone, Copy)]
-pub enum ElementForm {
-    Ill,
-    Element {
-        options: Options,
-        body: BodyPlaces,
-        properties: PropertyPlaces,
-    },
-}
-
 // A body, and where it ends.
 #[derive(Clone, Copy)]
-enum BodyForm {
-    Ill,
-    Body { places: BodyPlaces, end: usize },
-}
-
-// The properties, to the end of the block.
-#[derive(Clone, Copy)]
-enum PropertiesForm {
-    Ill,
-    Properties { places: PropertyPlaces },
+struct BodyForm {
+    places: BodyPlaces,
+    end: usize,
 }
 
 // ---- parts of a block
@@ -72,59 +48,44 @@ fn coordinate(b: &[u8], at: usize) -> bool
     requires { at + coordinate_length ≤ length b.now }
     ensures { Checked Form.coordinate b.now at (coordinate_at b.now at) (at + coordinate_length) result }
 {
-    let kind = big_endian::u8_at(b, at);
-    if kind == INTEGER {
-        return big_endian::u64_at(b, at + VALUE) < INTEGERS;
+    match big_endian::u8_at(b, at) {
+        INTEGER => big_endian::u64_at(b, at + VALUE) < INTEGERS,
+        DOUBLE => true,
+        ABSENT => big_endian::u64_at(b, at + VALUE) == 0 && big_endian::u64_at(b, at + UNIT) == 0,
+        _ => false,
     }
-    if kind == ABSENT {
-        if big_endian::u64_at(b, at + VALUE) != 0 {
-            return false;
-        }
-        return big_endian::u64_at(b, at + UNIT) == 0;
-    }
-    kind == DOUBLE
 }
 
 // A coordinate that is not absent.
+#[tactic(auto, unfolding(block_places::specs::code::Place::coordinate_at))]
 fn given(b: &[u8], at: usize) -> bool
     requires { at + coordinate_length ≤ length b.now }
     ensures { Checked given b.now at (unit_at b.now at) (at + coordinate_length) result }
 {
-    if block_places::is_absent(b, at) {
-        return false;
-    }
-    coordinate(b, at)
+    !block_places::is_absent(b, at) && coordinate(b, at)
 }
 
 // A point: neither coordinate is absent.
+#[tactic(auto, unfolding(sheet::specs::Form::point, block_places::specs::code::Place::point_at))]
 fn point(b: &[u8], at: usize) -> bool
     requires { at + point_length ≤ length b.now }
     ensures { Checked Form.point b.now at (point_at b.now at) (at + point_length) result }
 {
-    if !given(b, at) {
-        return false;
-    }
-    given(b, at + COORDINATE)
+    given(b, at) && given(b, at + COORDINATE)
 }
 
 // A spacing: both coordinates are absent, or neither.
+#[tactic(auto, unfolding(sheet::specs::Form::spacing, sheet::specs::Form::spacing_of, block_places::specs::code::Place::coordinate_at, block_places::specs::code::Place::spacing_at, block_places::specs::code::Place::point_at))]
 fn spacing(b: &[u8], at: usize) -> bool
     requires { at + point_length ≤ length b.now }
     ensures { Checked Form.spacing b.now at (spacing_at b.now at) (at + point_length) result }
 {
-    if !coordinate(b, at) {
-        return false;
-    }
-    if !coordinate(b, at + COORDINATE) {
-        return false;
-    }
-    if block_places::is_absent(b, at) {
-        return block_places::is_absent(b, at + COORDINATE);
-    }
-    !block_places::is_absent(b, at + COORDINATE)
+    coordinate(b, at)
+        && coordinate(b, at + COORDINATE)
+        && block_places::is_absent(b, at) == block_places::is_absent(b, at + COORDINATE)
 }
 
-// n points in a row; n is what 2 bytes hold.
+// n points in a row; n is what 2 bytes hold. A loop, since its invariant tells at once that the points left decide; over `all` it would take a list of the indices beside them.
 fn points(b: &[u8], from: usize, n: usize) -> bool
     requires { (from ≤ length b.now) × (n ≤ max_word) }
     ensures { Checked (times n Form.point) b.now from (points_from n b.now from) (from + point_length * n) result }
@@ -132,74 +93,64 @@ fn points(b: &[u8], from: usize, n: usize) -> bool
     if b.len() < from + POINT * n {
         return false;
     }
-    let mut i: usize = 0;
     let mut at = from;
-    while i < n {
+    for _ in 0..n {
         if !point(b, at) {
             return false;
         }
-        at = at + POINT;
-        i = i + 1;
+        at += POINT;
     }
     true
 }
 
 // The count of the properties and the properties, each an attribute and a string, to the end of the block.
-fn properties(b: &[u8], at: usize) -> PropertiesForm
+fn properties(b: &[u8], at: usize) -> Option<PropertyPlaces>
     requires { at ≤ length b.now }
     ensures { PropertiesRead b.now at result }
 {
     if b.len() < at + NUMBER {
-        return PropertiesForm::Ill;
+        return None;
     }
     let count = big_endian::u16_at(b, at) as usize;
     let place = at + NUMBER;
-    let mut i: usize = 0;
     let mut end = place;
-    while i < count {
+    for _ in 0..count {
         let value = end + NUMBER;
         if b.len() < value + NUMBER {
-            return PropertiesForm::Ill;
+            return None;
         }
         end = block_places::string_end(b, value);
         if b.len() < end {
-            return PropertiesForm::Ill;
+            return None;
         }
-        i = i + 1;
     }
     if end != b.len() {
-        return PropertiesForm::Ill;
+        return None;
     }
-    PropertiesForm::Properties {
-        places: PropertyPlaces { count, place },
-    }
+    Some(PropertyPlaces { count, place })
 }
 
 // ---- bodies, after the kind byte
 
 // A polygon, or a node.
-fn shape(b: &[u8], node: bool) -> BodyForm
+fn shape(b: &[u8], node: bool) -> Option<BodyForm>
     ensures { BodyRead (cond node Element.node_kind Element.polygon_kind) b.now result }
 {
     if b.len() < SHAPE_POINTS {
-        return BodyForm::Ill;
+        return None;
     }
     let shape = block_places::shape_places(b);
     let count = shape.points.count;
     if !points(b, SHAPE_POINTS, count) {
-        return BodyForm::Ill;
+        return None;
     }
     let end = SHAPE_POINTS + POINT * count;
-    if node {
-        return BodyForm::Body {
-            places: BodyPlaces::Node { shape },
-            end,
-        };
-    }
-    BodyForm::Body {
-        places: BodyPlaces::Polygon { shape },
-        end,
-    }
+    let places = if node {
+        BodyPlaces::Node { shape }
+    } else {
+        BodyPlaces::Polygon { shape }
+    };
+    Some(BodyForm { places, end })
 }
 
 // A path type byte.
@@ -208,10 +159,7 @@ fn path_type(b: &[u8], at: usize) -> bool
     ensures { Checked Element.path_type_form b.now at (path_type_of (number_at 1 b.now at)) (at + 1) result }
 {
     let pathtype = big_endian::u8_at(b, at);
-    if pathtype == NO_PATH_TYPE {
-        return true;
-    }
-    pathtype <= MAX_PATH_TYPE
+    pathtype == NO_PATH_TYPE || pathtype <= MAX_PATH_TYPE
 }
 
 // The three lengths of a path.
@@ -219,196 +167,173 @@ fn lengths(b: &[u8]) -> bool
     requires { path_points_place ≤ length b.now }
     ensures { LengthsChecked b.now result }
 {
-    if !coordinate(b, WIDTH) {
-        return false;
-    }
-    if !coordinate(b, BEGIN) {
-        return false;
-    }
-    coordinate(b, END)
+    coordinate(b, WIDTH) && coordinate(b, BEGIN) && coordinate(b, END)
 }
 
-fn path(b: &[u8]) -> BodyForm
+fn path(b: &[u8]) -> Option<BodyForm>
     ensures { BodyRead Element.path_kind b.now result }
 {
     if b.len() < PATH_POINTS {
-        return BodyForm::Ill;
+        return None;
     }
     if !path_type(b, PATH_TYPE) {
-        return BodyForm::Ill;
+        return None;
     }
     if !lengths(b) {
-        return BodyForm::Ill;
+        return None;
     }
     let path = block_places::path_places(b);
     let count = path.points.count;
     if !points(b, PATH_POINTS, count) {
-        return BodyForm::Ill;
+        return None;
     }
     let end = PATH_POINTS + POINT * count;
-    BodyForm::Body {
+    Some(BodyForm {
         places: BodyPlaces::Path { path },
         end,
-    }
+    })
 }
 
-fn text(b: &[u8]) -> BodyForm
+fn text(b: &[u8]) -> Option<BodyForm>
     ensures { BodyRead Element.text_kind b.now result }
 {
     if b.len() < STRING_BYTES {
-        return BodyForm::Ill;
+        return None;
     }
     if !code(b, VERTICAL, MAX_PRESENTATION) {
-        return BodyForm::Ill;
+        return None;
     }
     if !code(b, HORIZONTAL, MAX_PRESENTATION) {
-        return BodyForm::Ill;
+        return None;
     }
     if !code(b, TEXT_REFLECTION, REFLECTED) {
-        return BodyForm::Ill;
+        return None;
     }
     if !point(b, TEXT_ORIGIN) {
-        return BodyForm::Ill;
+        return None;
     }
     let end = block_places::string_end(b, STRING);
     if b.len() < end {
-        return BodyForm::Ill;
+        return None;
     }
     let text = block_places::text_places(b);
-    BodyForm::Body {
+    Some(BodyForm {
         places: BodyPlaces::Text { text },
         end,
-    }
+    })
 }
 
-fn reference(b: &[u8]) -> BodyForm
+fn reference(b: &[u8]) -> Option<BodyForm>
     ensures { BodyRead Element.reference_kind b.now result }
 {
     if b.len() < NAME_BYTES {
-        return BodyForm::Ill;
+        return None;
     }
     let base = block_places::string_end(b, NAME);
     let end = base + AFTER_NAME;
     if b.len() < end {
-        return BodyForm::Ill;
+        return None;
     }
     if !code(b, base + REFLECTION, REFLECTED) {
-        return BodyForm::Ill;
+        return None;
     }
     if !point(b, base + ORIGIN) {
-        return BodyForm::Ill;
+        return None;
     }
     if !spacing(b, base + COLUMN_SPACING) {
-        return BodyForm::Ill;
+        return None;
     }
     if !spacing(b, base + ROW_SPACING) {
-        return BodyForm::Ill;
+        return None;
     }
     let reference = block_places::reference_places(b, base);
-    BodyForm::Body {
+    Some(BodyForm {
         places: BodyPlaces::Reference { reference },
         end,
-    }
+    })
 }
 
 // A box: two points, and no count of them.
-fn gds_box(b: &[u8]) -> BodyForm
+fn gds_box(b: &[u8]) -> Option<BodyForm>
     ensures { BodyRead Element.box_kind b.now result }
 {
     if b.len() < BOX_END {
-        return BodyForm::Ill;
+        return None;
     }
     if !point(b, FIRST_CORNER) {
-        return BodyForm::Ill;
+        return None;
     }
     if !point(b, SECOND_CORNER) {
-        return BodyForm::Ill;
+        return None;
     }
     let gds_box = block_places::box_places(b);
-    BodyForm::Body {
+    Some(BodyForm {
         places: BodyPlaces::Box { gds_box },
         end: BOX_END,
-    }
+    })
 }
 
 // The body by its kind; any other kind is an unknown code.
-fn body(b: &[u8], kind: u8) -> BodyForm
+#[tactic(auto, unfolding(sheet::specs::Element::body_form))]
+fn body(b: &[u8], kind: u8) -> Option<BodyForm>
     ensures { BodyRead kind b.now result }
 {
-    if kind == POLYGON {
-        return shape(b, false);
+    match kind {
+        POLYGON => shape(b, false),
+        PATH => path(b),
+        TEXT => text(b),
+        NODE => shape(b, true),
+        REFERENCE => reference(b),
+        BOX => gds_box(b),
+        _ => None,
     }
-    if kind == PATH {
-        return path(b);
-    }
-    if kind == TEXT {
-        return text(b);
-    }
-    if kind == NODE {
-        return shape(b, true);
-    }
-    if kind == REFERENCE {
-        return reference(b);
-    }
-    if kind == BOX {
-        return gds_box(b);
-    }
-    BodyForm::Ill
 }
 
 // ---- blocks
 
 // The head: its name, and twelve numbers to the end of the block.
-pub fn head_of(b: &[u8]) -> HeadForm
+pub fn head_of(b: &[u8]) -> Option<HeadPlaces>
     ensures { HeadRead b.now result }
 {
     if b.len() < NUMBER {
-        return HeadForm::Ill;
+        return None;
     }
     let stamps = block_places::string_end(b, HEAD_NAME);
     if b.len() != stamps + STAMPS {
-        return HeadForm::Ill;
+        return None;
     }
-    HeadForm::Head {
-        places: HeadPlaces {
-            name: HEAD_NAME,
-            stamps,
-        },
-    }
+    Some(HeadPlaces {
+        name: HEAD_NAME,
+        stamps,
+    })
 }
 
 // Whether there is a kind byte, raised by no more than both options, and what it is raised for.
+#[tactic(auto, unfolding(crate::specs::code::Checks::options_in))]
 fn has_options(b: &[u8]) -> bool
     ensures { result ≡ options_in b.now }
 {
-    if b.len() < 1 {
+    if b.is_empty() {
         return false;
     }
     let kind = big_endian::u8_at(b, 0);
-    if KINDS <= kind {
-        return false;
-    }
-    1 + block_places::shift_of(kind) <= b.len()
+    kind < KINDS && 1 + block_places::shift_of(kind) <= b.len()
 }
 
 // An element: its kind byte, its options, its body and its properties.
-pub fn element(b: &[u8]) -> ElementForm
+pub fn element(b: &[u8]) -> Option<ElementPlaces>
     ensures { ElementRead b.now result }
 {
     if !has_options(b) {
-        return ElementForm::Ill;
+        return None;
     }
     let options = block_places::options_at(b);
     let rest = block_places::block_from(b, options.shift);
-    match body(rest, block_places::plain_kind(b)) {
-        BodyForm::Ill => ElementForm::Ill,
-        BodyForm::Body { places: body, end } => match properties(rest, end) {
-            PropertiesForm::Ill => ElementForm::Ill,
-            PropertiesForm::Properties { places: properties } => ElementForm::Element {
-                options,
-                body,
-                properties,
-            },
-        },
-    }
+    let form = body(rest, block_places::plain_kind(b))?;
+    let properties = properties(rest, form.end)?;
+    Some(ElementPlaces {
+        options,
+        body: form.places,
+        properties,
+    })
 }

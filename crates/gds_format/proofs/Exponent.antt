@@ -1,17 +1,12 @@
 -- The exponent's seven bits and its remainder, between the limits, as plain numbers. Assumes nothing.
 -- A magnitude of 53 digits, the last of which stands for 2 ^ j units, has the binary exponent j - 1022. Between the limits j is from 762 to 1273.
 use mathlib.Core.Path.{◌≡◌, ap}
-use Prim.Native.Nat.{ℕ, suc, ◌+◌, ◌-◌, ◌/◌, ◌%◌, ◌^◌, ◌≤◌, ◌<◌}
+use Prim.Native.Nat.{ℕ, suc, ◌+◌, ◌-◌, ◌/◌, ◌%◌, ◌≤◌, ◌<◌}
 use native.Mathlib.Omega.{arith}
 use lib.IntN.{pos, negsuc, sub_ℕ, ◌+ℤ◌, ◌-ℤ◌}
-use mir.Syntax.{w32}
-use mir.Val.{SFits}
 use Rattle.binary64.specs.Value.{floor_div}
 use Rattle.gds_format.specs.Real8.{floor_mod}
 use Rattle.gds_format.proofs.FloorDivision.{sub_cases}
-
-pub exponent-fits : (j : ℕ) → j < 2 ^ 31 → SFits w32 (pos j -ℤ pos 1022)
-exponent-fits j h = sub_cases j 1022 (λ z. SFits w32 z) (λ l. record { sfits = omega arith }) (λ l. record { sfits = omega arith })
 
 pub bits_is : (j : ℕ) → 762 ≤ j → floor_div (pos j -ℤ pos 1022) 4 +ℤ pos 65 ≡ pos ((j - 762) / 4)
 unfolding floor_div

@@ -17,19 +17,18 @@ use Rattle.big_endian.specs.Big.{bytes_of}
 use Rattle.big_endian.proofs.BigLaws.{length-bytes_of}
 use Rattle.binary64.specs.Value.{size_of, negative, scaled}
 use Rattle.binary64.proofs.Signed.{scaled-abs, scaled-zero}
-use Rattle.gds_format.specs.declared.Encoding.{Encoding}
-use Rattle.gds_format.specs.declared.Encoding.TheVariants.{Refused, Encoded}
+use Rattle.std.specs.Prelude.{Ok, Err}
 use Rattle.gds_format.specs.declared.GdsReal8Error.TheVariants.{NonFinite, MagnitudeTooSmall, MagnitudeTooLarge}
-use Rattle.gds_format.specs.Real8.{real8_value, min_magnitude, max_magnitude, pattern, encoded, encode_magnitude, encoding, values_of, real8}
+use Rattle.gds_format.specs.Real8.{real8_value, min_magnitude, max_magnitude, pattern, Encoding, encoded, encode_magnitude, encoding, values_of, real8}
 use Rattle.gds_format.specs.Faithful.{Normalized, Encodable, Zero, OutOfLimits, Faithful, EncodesReal, EncoderFaithful}
 use Rattle.gds_format.proofs.Pattern.{double-between, pattern-worth, pattern-normalized}
 use Rattle.gds_format.proofs.Unique.{normalized-least, normalized-most}
 
 -- ---- the answer, by the four tests
 
-abbrev answered : Float → Bool → Bool → Bool → Bool → Encoding
+abbrev pub answered : Float → Bool → Bool → Bool → Bool → Encoding
 answered x f z s l =
-    cond f (cond z (encoded 0) (cond s (Refused MagnitudeTooSmall) (cond l (encoded (pattern (negative x) (size_of x))) (Refused MagnitudeTooLarge)))) (Refused NonFinite)
+    cond f (cond z (encoded 0) (cond s (Err MagnitudeTooSmall) (cond l (encoded (pattern (negative x) (size_of x))) (Err MagnitudeTooLarge)))) (Err NonFinite)
 
 pub encoding-is : (x : Float) (f z s l : Bool) → finite x ≡ f → eqb (size_of x) 0 ≡ z → ltb (size_of x) min_magnitude ≡ s → ltb (size_of x) max_magnitude ≡ l
     → answered x f z s l ≡ encoding x
@@ -38,11 +37,11 @@ encoding-is x f z s l a b c d = sym (λ i. answered x (a i) (b i) (c i) (d i))
 
 -- the five answers, and what holds at each
 data Answer (x : Float) : Encoding → Type 0 where
-  not_finite : T (not (finite x)) → Answer x (Refused NonFinite)
+  not_finite : T (not (finite x)) → Answer x (Err NonFinite)
   zeros : T (finite x) → size_of x ≡ 0 → Answer x (encoded 0)
-  too_small : T (finite x) → (size_of x ≡ 0 → ⊥) → size_of x < min_magnitude → Answer x (Refused MagnitudeTooSmall)
+  too_small : T (finite x) → (size_of x ≡ 0 → ⊥) → size_of x < min_magnitude → Answer x (Err MagnitudeTooSmall)
   between : T (finite x) → min_magnitude ≤ size_of x → size_of x < max_magnitude → Answer x (encoded (pattern (negative x) (size_of x)))
-  too_large : T (finite x) → max_magnitude ≤ size_of x → Answer x (Refused MagnitudeTooLarge)
+  too_large : T (finite x) → max_magnitude ≤ size_of x → Answer x (Err MagnitudeTooLarge)
 
 answer : (x : Float) → Answer x (encoding x)
 answer x = subst (λ (e : Encoding). Answer x e) (encoding-is x (finite x) (eqb n 0) (ltb n min_magnitude) (ltb n max_magnitude) refl refl refl refl)
@@ -95,8 +94,8 @@ unfolding real8
 real8-eight x b = go (encoding x)
   where
     go : (o : Encoding) → (values_of o).bytes ≡ some b → length b ≡ 8
-    go (Refused r) e = none-some e
-    go (Encoded r) e = ap length (sym (some_back e)) ∙ length-bytes_of 8 r.pattern
+    go (Err r) e = none-some e
+    go (Ok r) e = ap length (sym (some_back e)) ∙ length-bytes_of 8 r.pattern
 
 module _ (x : Float) (F : T (fits binary64 x)) where
   between-worth : T (finite x) → min_magnitude ≤ size_of x → size_of x < max_magnitude → real8_value (bytes_of 8 (pattern (negative x) (size_of x))) ≡ scaled x

@@ -2,15 +2,15 @@
 -- The first byte is a sign bit and the exponent e plus 64, the other seven are a fraction m of 56 bits: the value is m * 2 ^ -56 * 16 ^ e.
 -- Values are counted in units of 2 ^ -1074, of which every finite double and every eight-byte real is a whole number.
 use Rattle.std.proofs.Math.Option.{Option, none, some}
-use Rattle.std.specs.Prelude.{List, [], ◌∷◌, Bool, cond, ℕ, ◌+◌, ◌-◌, ◌*◌, ◌/◌, ◌%◌, ◌^◌, leb, ltb, eqb, ℤ, pos, negsuc, nat_abs, ◌+ℤ◌, ◌-ℤ◌, Float}
+use Rattle.std.specs.Prelude.{List, [], ◌∷◌, Bool, cond, ℕ, ◌+◌, ◌-◌, ◌*◌, ◌/◌, ◌%◌, ◌^◌, leb, ltb, eqb, ℤ, pos, negsuc, nat_abs, ◌+ℤ◌, ◌-ℤ◌, Result, Ok, Err, Float}
 use Rattle.std.specs.Float.Ieee.{size}
 use Rattle.std.specs.Float.Ieee.Scale.{finite}
 use Rattle.big_endian.specs.Big.{number, bytes_of}
 use Rattle.binary64.specs.Value.{size_of, negative, signed, floor_div}
 use Rattle.refusal.specs.declared.Refusal.TheVariants as the
 use Rattle.refusal.specs.Number as R
-use Rattle.gds_format.specs.declared.Encoding.{Encoding}
-use Rattle.gds_format.specs.declared.Encoding.TheVariants.{Refused, Encoded}
+use Rattle.gds_format.specs.declared.Real8.{Real8}
+use Rattle.gds_format.specs.declared.GdsReal8Error.{GdsReal8Error}
 use Rattle.gds_format.specs.declared.GdsReal8Error.TheVariants.{NonFinite, MagnitudeTooSmall, MagnitudeTooLarge}
 
 -- ---- reading
@@ -57,19 +57,23 @@ fraction n = significand n * 2 ^ floor_mod (binary_exponent n) 4
 abbrev pub pattern : Bool → ℕ → ℕ
 pattern s n = cond s (2 ^ 63) 0 + exponent_bits (binary_exponent n) * 2 ^ 56 + fraction n
 
+-- what the encoder answers: an eight-byte real, or why there is none
+abbrev pub Encoding : Type 0
+Encoding = Result Real8 GdsReal8Error
+
 abbrev pub encoded : ℕ → Encoding
-encoded p = Encoded (record { pattern = p })
+encoded p = Ok (record { pattern = p })
 
 -- The answer for a sign and a magnitude. "Both zeros give eight zero bytes."
 unfoldable pub encode_magnitude : Bool → ℕ → Encoding
 encode_magnitude s n =
     cond (eqb n 0) (encoded 0)
-    (cond (ltb n min_magnitude) (Refused MagnitudeTooSmall)
-    (cond (ltb n max_magnitude) (encoded (pattern s n)) (Refused MagnitudeTooLarge)))
+    (cond (ltb n min_magnitude) (Err MagnitudeTooSmall)
+    (cond (ltb n max_magnitude) (encoded (pattern s n)) (Err MagnitudeTooLarge)))
 
 -- the encoder's answer for every double
 unfoldable pub encoding : Float → Encoding
-encoding x = cond (finite x) (encode_magnitude (negative x) (size_of x)) (Refused NonFinite)
+encoding x = cond (finite x) (encode_magnitude (negative x) (size_of x)) (Err NonFinite)
 
 -- In numbers (document 01, its last paragraph, "Where an answer is an enum"): the refusal's number, 14 for each of the three reasons, or 0; and the eight bytes, none where refused.
 pub record Values : Type 0 where
@@ -77,8 +81,8 @@ pub record Values : Type 0 where
   pub bytes : Option (List ℕ)
 
 abbrev pub values_of : Encoding → Values
-values_of (Refused e) = record { number = R.number the.Real; bytes = none }
-values_of (Encoded r) = record { number = 0; bytes = some (bytes_of 8 r.pattern) }
+values_of (Err e) = record { number = R.number the.Real; bytes = none }
+values_of (Ok r) = record { number = 0; bytes = some (bytes_of 8 r.pattern) }
 
 unfoldable pub real8 : Float → Option (List ℕ)
 real8 x = (values_of (encoding x)).bytes

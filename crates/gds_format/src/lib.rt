@@ -7,65 +7,60 @@ ghost use Rattle.binary64.specs.Value.{size_of, negative, floor_div};
 ghost use Rattle.gds_format.specs.Real8.{min_magnitude, max_magnitude, floor_mod, exponent_bits, pattern, values_of};
 ghost use Rattle.gds_format.specs.Faithful.{EncodesReal};
 ghost use Rattle.gds_format.specs.code.Power.{zero_power, least_power, end_power};
+ghost use Rattle.refusal.specs.declared.Refusal.TheVariants as the;
 
-#[derive(Clone, Copy)]
+use refusal::Refusal;
+
+#[derive(Clone, Copy, Debug, PartialEq, Eq)]
 pub enum GdsReal8Error {
     NonFinite,
     MagnitudeTooSmall,
     MagnitudeTooLarge,
 }
 
-// An eight-byte real. Its bytes are those of `pattern`, the highest first: a number and no array, since an enum that holds an array is not covered.
-#[derive(Clone, Copy)]
+// Who has no use for the reason has one refusal for all three.
+impl From<GdsReal8Error> for Refusal {
+    ghost from_gives = { λ e r. r ≡ the.Real };
+
+    fn from(_: GdsReal8Error) -> Refusal {
+        Refusal::Real
+    }
+}
+
+// An eight-byte real. Its bytes are those of `pattern`, the highest first: the number that a record's eight bytes are put from.
+#[derive(Clone, Copy, Debug, PartialEq, Eq)]
 pub struct Real8 {
     pub pattern: u64,
 }
 
-// The answer of `Real8::encode`.
-#[derive(Clone, Copy)]
-pub enum Encoding {
-    Refused { error: GdsReal8Error },
-    Encoded { real: Real8 },
-}
-
 impl Real8 {
-    // Smallest positive normalized value, 16^-65 = 2^-260. (A constant's value can hold no call of `from_bits`.)
+    // Smallest positive normalized value, 16^-65 = 2^-260.
     pub const MIN_MAGNITUDE: f64 = 5.397605346934028e-79;
     // Exclusive upper magnitude bound, 16^63 = 2^252.
     pub const MAX_MAGNITUDE: f64 = 7.237005577332262e75;
 
     // The eight-byte real that equals x, in gdsr `eight_byte_real`.
-    pub fn encode(x: f64) -> Encoding
+    pub fn encode(x: f64) -> Result<Real8, GdsReal8Error>
         ensures { EncodesReal x (values_of result) }
     {
         if !binary64::is_finite(x) {
-            return Encoding::Refused {
-                error: GdsReal8Error::NonFinite,
-            };
+            return Err(GdsReal8Error::NonFinite);
         }
         if x == 0.0 {
-            return Encoding::Encoded {
-                real: Real8 { pattern: 0 },
-            };
+            return Ok(Real8 { pattern: 0 });
         }
         if magnitude_below(x, Real8::MIN_MAGNITUDE) {
-            return Encoding::Refused {
-                error: GdsReal8Error::MagnitudeTooSmall,
-            };
+            return Err(GdsReal8Error::MagnitudeTooSmall);
         }
         if magnitude_below(x, Real8::MAX_MAGNITUDE) {
             let pattern = normalized_pattern(x);
-            return Encoding::Encoded {
-                real: Real8 { pattern },
-            };
+            return Ok(Real8 { pattern });
         }
-        Encoding::Refused {
-            error: GdsReal8Error::MagnitudeTooLarge,
-        }
+        Err(GdsReal8Error::MagnitudeTooLarge)
     }
 }
 
-// The weight of a pattern's sign bit.
+// The weight of a pattern's sign bit. A number of its own: a double's pattern is another format.
 const SIGN: u64 = 0x8000_0000_0000_0000;
 
 // The weight of the exponent's last bit: below it stand the 56 bits of the fraction.
@@ -79,32 +74,12 @@ const LAST_DIGIT: i32 = 1022;
 
 // Whether |x| is below a limit that is not negative.
 fn magnitude_below(x: f64, limit: f64) -> bool
-    requires t { T (finite x) }
-    requires t_2 { T (finite limit) }
-    requires limit_value { negative limit ≡ false }
+    requires x_finite { T (finite x) }
+    requires limit_finite { T (finite limit) }
+    requires limit_positive { negative limit ≡ false }
     ensures { result ≡ ltb (size_of x) (size_of limit) }
 {
     -limit < x && x < limit
-}
-
-// e / 4, rounded down: `div_euclid(4)`.
-fn div_euclid_4(e: i32) -> i32
-    ensures { result ≡ floor_div e 4 }
-{
-    let quotient = e / 4;
-    if e % 4 < 0 { quotient - 1 } else { quotient }
-}
-
-// What `div_euclid_4` leaves, from 0 to 3: `rem_euclid(4)`.
-fn rem_euclid_4(e: i32) -> u64
-    ensures { result ≡ floor_mod e 4 }
-{
-    let remainder = e % 4;
-    if remainder < 0 {
-        (remainder + 4) as u64
-    } else {
-        remainder as u64
-    }
 }
 
 // The binary exponent of a significand whose last digit stands for 2^power units.
@@ -121,7 +96,7 @@ fn exponent_bits(power: u64) -> u64
     requires power_lt_end_power { power < end_power }
     ensures { result ≡ exponent_bits (pos power -ℤ pos zero_power) }
 {
-    (div_euclid_4(binary_exponent(power)) + EXCESS) as u64
+    (binary_exponent(power).div_euclid(4) + EXCESS) as u64
 }
 
 // The fraction: the significand, shifted by the exponent's remainder.
@@ -130,12 +105,12 @@ fn fraction(digits: u64, power: u64) -> u64
     requires power_bound { power < 2 ^ 31 }
     ensures { result ≡ digits * 2 ^ floor_mod (pos power -ℤ pos zero_power) 4 }
 {
-    digits << rem_euclid_4(binary_exponent(power))
+    digits << binary_exponent(power).rem_euclid(4)
 }
 
 // The pattern of an x between the limits.
 fn normalized_pattern(x: f64) -> u64
-    requires t { T (finite x) }
+    requires x_finite { T (finite x) }
     requires min_magnitude_bound { min_magnitude ≤ size_of x }
     requires x_bound { size_of x < max_magnitude }
     ensures { result ≡ pattern (negative x) (size_of x) }

@@ -5,9 +5,8 @@ use Prim.Native.Nat.{ℕ, ◌<◌}
 use lib.Dec.{T}
 use lib.ListN.{length, take, get_or}
 use lib.Ieee.{Float, binary64, fits}
-use Rattle.cell.specs.declared.Answer.TheVariants.{Accepted}
 use Rattle.cell.specs.Cell.{write_cell, out_after}
-use Rattle.cell.specs.Answer.{answer_of}
+use Rattle.cell.specs.Answer.{accepted, answer_of}
 use Rattle.cell.specs.Draws.{Draws}
 use Rattle.cell.proofs.DrawsLaws.{demand3}
 use Rattle.cases.specs.Case.{halved}
@@ -19,7 +18,7 @@ use Rattle.guards.specs.Values.{one}
 use Rattle.guards.proofs.DecidedLaws.{all-bytes}
 
 pub demand : (policy : ℕ) (d : Float) (sheet out report : List ℕ) (n entries : ℕ) (greatest : Float) → T (fits binary64 d) → ((i : ℕ) → get_or sheet i 0 < 256)
-    → answer_of (write_cell policy d sheet (length out) (length report)) ≡ Accepted n entries greatest
+    → answer_of (write_cell policy d sheet (length out) (length report)) ≡ accepted n entries greatest
     → Draws policy d sheet (take n (out_after (write_cell policy d sheet (length out) (length report)) out))
 demand = demand3
 
@@ -40,7 +39,7 @@ report : List ℕ
 report = x 66 0
 
 -- 488 bytes, and two entries: the node's 1.5, with the greatest error, 1/2, and the box's 5.25
-answer : answer_of (write_cell 0 one sheet (length out) (length report)) ≡ Accepted 488 2 (bits 0x3fe0000000000000)
+answer : answer_of (write_cell 0 one sheet (length out) (length report)) ≡ accepted 488 2 (bits 0x3fe0000000000000)
 unfolding opened halved sheet out report
 answer = refl
 

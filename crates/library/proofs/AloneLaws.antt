@@ -7,7 +7,7 @@ use lib.Dec.{leb}
 use lib.ListN.{length}
 use lib.Ieee.{Float}
 use Rattle.refusal.specs.declared.Refusal.{Refusal}
-use Rattle.parsing.specs.All.{All, done, more}
+use Rattle.parsing.specs.All.{All, more}
 use Rattle.conversion.specs.declared.GdsRoundingPolicy.{GdsRoundingPolicy}
 use Rattle.conversion.specs.Made.{Made}
 use Rattle.sheet.specs.Blocks.{pair_count, pairs_fit, block_of}

@@ -12,7 +12,7 @@ use lib.Ieee.Positive.{positive}
 use Rattle.big_endian.specs.Big.{Bytes}
 use Rattle.big_endian.specs.Buffer.{over}
 use Rattle.big_endian.proofs.BytesLaws.{bytes-nil, bytes-append}
-use Rattle.parsing.specs.All.{All, done, more}
+use Rattle.parsing.specs.All.{All, more}
 use Rattle.conversion.specs.declared.GdsRoundingPolicy.{GdsRoundingPolicy}
 use Rattle.conversion.specs.Made.{Made}
 use Rattle.conversion.specs.Policy.{policy_of}
@@ -30,10 +30,10 @@ use Rattle.cell.specs.Draws.{Each, Draws}
 use Rattle.cell.specs.Draws as W
 use Rattle.cell.proofs.ResultLaws as CL
 use Rattle.cell.proofs.CallLaws.{Calling, unnamed, no_unit, too_long, passes, calling}
+use Rattle.cell.proofs.AnswerLaws.{same-parts}
 use Rattle.cell.proofs.DrawsLaws.{Sound, sheet-sound}
-use Rattle.library.specs.declared.LibraryAnswer.TheVariants as A
 use Rattle.library.specs.Library.{Result, stopped, written, WrittenCell, write_one, write_cells, LibraryFile, max_library_name_length, file_with, file_head_of, write_named, write_headed, write_library_sheet, after_caller, library_file, cells_bytes, file_bytes, library_entry_length, entries_in, fitting, write_library, out_after}
-use Rattle.library.specs.Answer.{answer_of}
+use Rattle.library.specs.Answer.{accepted, answer_of}
 use Rattle.library.specs.Draws.{concat, DrawsLibrary, WrittenDraws}
 use Rattle.library.proofs.ResultLaws.{Whenever, check-whenever}
 use Rattle.library.proofs.FileLaws.{head_bytes, end-bytes}
@@ -142,9 +142,9 @@ unfolding over
 written-draws policy d sheet out report n entries greatest fd all q =
     go (write_library policy d sheet (length out) (length report)) (written-drawn policy d sheet fd all (length out) (length report)) q
   where
-    go : (x : Result LibraryFile) → Whenever (λ l. DrawsLibrary policy d sheet (file_bytes l)) x → answer_of x ≡ A.Accepted n entries greatest → DrawsLibrary policy d sheet (take n (out_after x out))
+    go : (x : Result LibraryFile) → Whenever (λ l. DrawsLibrary policy d sheet (file_bytes l)) x → answer_of x ≡ accepted n entries greatest → DrawsLibrary policy d sheet (take n (out_after x out))
     go (stopped r c k) h q = let z : ◌≡◌ {A = ℕ} 0 1 = cc in absurd (omega arith)
     go (written l) h q =
-        let e : length (file_bytes l) ≡ n = cc in
+        let e = (same-parts _ _ q).0 in
         subst (λ (k : ℕ). DrawsLibrary policy d sheet (take k (out_after (written l) out))) e
         (subst (DrawsLibrary policy d sheet) (sym (take-append_seam (file_bytes l) (drop (length (file_bytes l)) out))) h)

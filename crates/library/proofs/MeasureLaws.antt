@@ -6,8 +6,9 @@ use borrow.Author.Tests.{le-leb, lt-leb}
 use lib.Dec.{leb}
 use lib.ListN.{length}
 use lib.Ieee.{Float}
-use Rattle.library.specs.declared.LibraryAnswer.TheVariants as A
+use Rattle.cell.proofs.AnswerLaws.{same-parts}
 use Rattle.library.specs.Library.{Result, stopped, written, LibraryFile, library_file, file_bytes, library_entry_length, entries_in, fitting, write_library}
+use Rattle.library.specs.Answer as A
 use Rattle.library.specs.Answer.{answer_of}
 use Rattle.library.specs.Agree.{Agrees, WritingAgrees}
 use Rattle.library.proofs.ResultLaws.{check-on, check-off}
@@ -21,7 +22,7 @@ fitting-agrees out report (stopped r c k) = record {
   accepted = λ n i g e l m. never e;
 }
   where
-    never : {X : Type 0} {n i : ℕ} {g : Float} → A.Refused r c k ≡ A.Accepted n i g → X
+    never : {X : Type 0} {n i : ℕ} {g : Float} → A.refused r c k ≡ A.accepted n i g → X
     never e = let z : ◌≡◌ {A = ℕ} 0 1 = cc in absurd (omega arith)
 fitting-agrees out report (written w) =
     let bytes = length (file_bytes w) in
@@ -29,15 +30,13 @@ fitting-agrees out report (written w) =
     record {
       refused = λ r c k e. let z : ◌≡◌ {A = ℕ} 0 1 = cc in absurd (omega arith);
       output_short = λ n c g e l.
-          let f : n ≡ length (file_bytes w) = cc in
+          let same = same-parts _ _ e in
           ap answer_of (check-off (leb bytes out) _ _ (lt-leb bytes out (omega arith)));
       report_short = λ n c g e l m.
-          let f : n ≡ length (file_bytes w) = cc in
-          let h : c ≡ entries_in w.cells = cc in
+          let same = same-parts _ _ e in
           ap answer_of (check-on (leb bytes out) _ _ (le-leb bytes out (omega arith)) ∙ check-off (leb entries report) _ _ (lt-leb entries report (omega arith)));
       accepted = λ n c g e l m.
-          let f : n ≡ length (file_bytes w) = cc in
-          let h : c ≡ entries_in w.cells = cc in
+          let same = same-parts _ _ e in
           ap answer_of (check-on (leb bytes out) _ _ (le-leb bytes out (omega arith)) ∙ check-on (leb entries report) _ _ (le-leb entries report (omega arith))) ∙ e;
     }
 

@@ -3,17 +3,16 @@
 use Rattle.std.specs.Prelude.{◌≡◌, List, ℕ, ◌*◌, ◌≤◌, ◌<◌, Float}
 use Rattle.refusal.specs.declared.Refusal.{Refusal}
 use Rattle.refusal.specs.declared.Refusal.TheVariants as R
-use Rattle.library.specs.declared.LibraryAnswer.{LibraryAnswer}
-use Rattle.library.specs.declared.LibraryAnswer.TheVariants as A
 use Rattle.library.specs.Library.{no_cell, library_entry_length, library_file, write_library}
-use Rattle.library.specs.Answer.{answer_of}
+use Rattle.library.specs.Answer as A
+use Rattle.library.specs.Answer.{LibraryAnswer, answer_of}
 
 -- what writing answers where measuring answered a, given so much output and report
 pub record Agrees (out report : ℕ) (a b : LibraryAnswer) : Type 0 where
-  pub refused : (r : Refusal) (c k : ℕ) → a ≡ A.Refused r c k → b ≡ A.Refused r c k
-  pub output_short : (n e : ℕ) (g : Float) → a ≡ A.Accepted n e g → out < n → b ≡ A.Refused R.OutputShort no_cell 0
-  pub report_short : (n e : ℕ) (g : Float) → a ≡ A.Accepted n e g → n ≤ out → report < library_entry_length * e → b ≡ A.Refused R.ReportShort no_cell 0
-  pub accepted : (n e : ℕ) (g : Float) → a ≡ A.Accepted n e g → n ≤ out → library_entry_length * e ≤ report → b ≡ A.Accepted n e g
+  pub refused : (r : Refusal) (c k : ℕ) → a ≡ A.refused r c k → b ≡ A.refused r c k
+  pub output_short : (n e : ℕ) (g : Float) → a ≡ A.accepted n e g → out < n → b ≡ A.refused R.OutputShort no_cell 0
+  pub report_short : (n e : ℕ) (g : Float) → a ≡ A.accepted n e g → n ≤ out → report < library_entry_length * e → b ≡ A.refused R.ReportShort no_cell 0
+  pub accepted : (n e : ℕ) (g : Float) → a ≡ A.accepted n e g → n ≤ out → library_entry_length * e ≤ report → b ≡ A.accepted n e g
 
 abbrev pub WritingAgrees : Type 0
 WritingAgrees = (policy : ℕ) (d : Float) (sheet : List ℕ) (out report : ℕ)

@@ -8,9 +8,8 @@ use Rattle.sheet.specs.Blocks.{block_of}
 use Rattle.sheet.specs.Library.{LibraryHead, library_head_of, cell_sheets}
 use Rattle.stream.specs.Library.{FileHead, file_head_bytes, file_end_bytes}
 use Rattle.cell.specs.Draws.{Each, Draws}
-use Rattle.library.specs.declared.LibraryAnswer.TheVariants as A
 use Rattle.library.specs.Library.{file_head_of, write_library, out_after}
-use Rattle.library.specs.Answer.{answer_of}
+use Rattle.library.specs.Answer.{accepted, answer_of}
 
 -- the parts in a row
 abbrev pub concat : List (List ℕ) → List ℕ
@@ -31,5 +30,5 @@ pub record DrawsLibrary (policy : ℕ) (d : Float) (sheet file : List ℕ) : Typ
 -- (Every f64 fits binary64, and every &[u8] is of bytes.)
 abbrev pub WrittenDraws : Type 0
 WrittenDraws = (policy : ℕ) (d : Float) (sheet out report : List ℕ) (n entries : ℕ) (greatest : Float) → T (fits binary64 d) → Bytes sheet
-    → answer_of (write_library policy d sheet (length out) (length report)) ≡ A.Accepted n entries greatest
+    → answer_of (write_library policy d sheet (length out) (length report)) ≡ accepted n entries greatest
     → DrawsLibrary policy d sheet (take n (out_after (write_library policy d sheet (length out) (length report)) out))

@@ -8,15 +8,13 @@ use lib.ListN.{length, take, get_or}
 use lib.Ieee.{Float, binary64, fits}
 use Rattle.refusal.specs.declared.Refusal.{Refusal}
 use Rattle.refusal.specs.declared.Refusal.TheVariants as R
-use Rattle.library.specs.declared.LibraryAnswer.{LibraryAnswer}
-use Rattle.library.specs.declared.LibraryAnswer.TheVariants.{Refused, Accepted}
 use Rattle.sheet.specs.Library.{cell_sheets}
 use Rattle.cell.specs.Cell as C
 use Rattle.cell.specs.Cell.{cell_structure}
 use Rattle.cell.specs.Draws.{Each}
 use Rattle.library.specs.Library as L
 use Rattle.library.specs.Library.{stopped, LibraryFile, library_file, write_library, out_after}
-use Rattle.library.specs.Answer.{answer_of}
+use Rattle.library.specs.Answer.{LibraryAnswer, refused, accepted, answer_of}
 use Rattle.library.specs.Order.{First}
 use Rattle.library.specs.Draws.{DrawsLibrary}
 use Rattle.library.proofs.OrderLaws.{ordered}
@@ -36,7 +34,7 @@ use Rattle.library_guards.proofs.WrittenLaws.{out, report, answer, file-written}
 -- ---- what an accepted file draws
 
 pub demand : (policy : ℕ) (d : Float) (sheet out report : List ℕ) (n entries : ℕ) (greatest : Float) → T (fits binary64 d) → ((i : ℕ) → get_or sheet i 0 < 256)
-    → answer_of (write_library policy d sheet (length out) (length report)) ≡ Accepted n entries greatest
+    → answer_of (write_library policy d sheet (length out) (length report)) ≡ accepted n entries greatest
     → DrawsLibrary policy d sheet (take n (out_after (write_library policy d sheet (length out) (length report)) out))
 demand = written-draws
 
@@ -81,17 +79,17 @@ module _ (policy : ℕ) (d : Float) (sheet : List ℕ) (out report : ℕ) where
   abbrev written : LibraryAnswer
   written = answer_of (write_library policy d sheet out report)
 
-  pub same-refusal : (r : Refusal) (c k : ℕ) → measured ≡ Refused r c k → written ≡ Refused r c k
+  pub same-refusal : (r : Refusal) (c k : ℕ) → measured ≡ refused r c k → written ≡ refused r c k
   same-refusal = (writing-agrees policy d sheet out report).refused
 
-  module _ (n e : ℕ) (g : Float) (m : measured ≡ Accepted n e g) where
-    pub output-short : out < n → written ≡ Refused R.OutputShort 4294967295 0
+  module _ (n e : ℕ) (g : Float) (m : measured ≡ accepted n e g) where
+    pub output-short : out < n → written ≡ refused R.OutputShort 4294967295 0
     output-short = (writing-agrees policy d sheet out report).output_short n e g m
 
-    pub report-short : n ≤ out → report < 37 * e → written ≡ Refused R.ReportShort 4294967295 0
+    pub report-short : n ≤ out → report < 37 * e → written ≡ refused R.ReportShort 4294967295 0
     report-short = (writing-agrees policy d sheet out report).report_short n e g m
 
-    pub long-enough : n ≤ out → 37 * e ≤ report → written ≡ Accepted n e g
+    pub long-enough : n ≤ out → 37 * e ≤ report → written ≡ accepted n e g
     long-enough = (writing-agrees policy d sheet out report).accepted n e g m
 
 -- ---- the file of the tables

@@ -3,9 +3,8 @@ use mathlib.Core.Path.{◌≡◌, refl}
 use mathlib.Core.List.{List, ◌++◌}
 use Prim.Native.Nat.{ℕ}
 use lib.ListN.{length, take}
-use Rattle.library.specs.declared.LibraryAnswer.TheVariants.{Accepted}
 use Rattle.library.specs.Library.{write_library, out_after, report_after}
-use Rattle.library.specs.Answer.{answer_of}
+use Rattle.library.specs.Answer.{accepted, answer_of}
 use Rattle.cases.specs.Case.{halved}
 use Rattle.cases.proofs.Open.{opened}
 use Rattle.guards.specs.Question.{x, bits}
@@ -22,7 +21,7 @@ pub report : List ℕ
 report = x 39 0xeeee
 
 -- 174 bytes, and one entry, of an error of 1/2: the node's 2.5
-pub answer : answer_of (write_library 0 one sheet (length out) (length report)) ≡ Accepted 174 1 (bits 0x3fe0000000000000)
+pub answer : answer_of (write_library 0 one sheet (length out) (length report)) ≡ accepted 174 1 (bits 0x3fe0000000000000)
 unfolding opened halved sheet_a sheet_b sheet out report
 answer = refl
 

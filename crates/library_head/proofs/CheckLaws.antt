@@ -1,5 +1,5 @@
 -- Block 0 checked: 23, 6, 24, 25, one law for each way out of the code; and how long its records are. Assumes nothing.
-use mathlib.Core.Path.{◌≡◌, sym, ap, ◌∙◌, subst}
+use mathlib.Core.Path.{◌≡◌, refl, sym, ap, ◌∙◌, subst}
 use mathlib.Core.Bool.{Bool, true, false, not}
 use mathlib.Core.Option.{Option, some}
 use mathlib.Core.List.{List, [], ◌∷◌}
@@ -21,13 +21,14 @@ use Rattle.library.specs.Library.{max_library_name_length, file_head_of}
 use Rattle.records.proofs.RecordLaws.{length-first, length-padded}
 use Rattle.block_places.specs.code.Place.{words_from, string_at, double_at}
 use Rattle.walk.proofs.HeadLaws.{length-words, words-bytes}
-use Rattle.library_head.specs.declared.HeadForm.{HeadForm}
-use Rattle.library_head.specs.declared.HeadForm.TheVariants as F
+use Rattle.std.specs.Prelude as Code
+use Rattle.std.specs.Prelude.{Result, Ok, Err, Some, None, IsErrAnd}
+use Rattle.std.specs.Option.{ok_or}
+use Rattle.std.proofs.lemmas.Result.{err_from_is_err_and}
+use Rattle.refusal.specs.declared.Refusal.{Refusal}
 use Rattle.library_head.specs.declared.Units.{Units}
-use Rattle.library_head.specs.declared.Units.TheVariants as U
 use Rattle.library_head.specs.declared.HeadParts.{HeadParts}
 use Rattle.library_head.specs.declared.HeadChecked.{HeadChecked}
-use Rattle.library_head.specs.declared.HeadChecked.TheVariants as H
 use Rattle.library_head.specs.code.Head.{library_head_at, PartsIn, FormRead, head_encoded, UnitsRead, units_step, head_step, file_head_at, HeadRead}
 
 -- HEADER of 6 bytes, BGNLIB of 28, LIBNAME of 4 and the name, made even, UNITS of 20
@@ -51,15 +52,30 @@ head-length b p =
     let y = length-bytes_of 8 p.database in
     omega arith
 
+-- what `ok_or(e)?` hands on
+pub handed-out : {A B : Type 0} (e r : Refusal) (o : Code.Option A) (w : Result B Refusal) → IsErrAnd w (λ y. y ≡ r) → Err r ≡ ok_or o e → w ≡ Err e
+handed-out {A} {B} e r o w m h = let p = err_from_is_err_and w m in p.1 ∙ ap refuse (p.2 ∙ ap error h ∙ by o)
+  where
+    refuse : Refusal → Result B Refusal
+    refuse y = Err y
+
+    error : Result A Refusal → Refusal
+    error (Err y) = y
+    error (Ok x) = e
+
+    by : (o : Code.Option A) → error (ok_or o e) ≡ e
+    by Code.None = refl
+    by (Code.Some x) = refl
+
 module _ (d : Float) (b : List ℕ) where
-  pub form-stop : {r : HeadForm} → FormRead b r → r ≡ F.Ill → HeadRead d b (library_head_of b) (H.Refused R.LibraryForm)
+  pub form-stop : {r : Code.Option ℕ} → FormRead b r → r ≡ None → HeadRead d b (library_head_of b) (Err R.LibraryForm)
   form-stop w e = record { step = sym (ap (head_step d) (subst (FormRead b) e w).form); places = tt }
 
-  module _ {p : ℕ} {r : HeadForm} (w : FormRead b r) (e : r ≡ F.Head p) where
+  module _ {p : ℕ} {r : Code.Option ℕ} (w : FormRead b r) (e : r ≡ Some p) where
     pub parts_in : PartsIn b p
     parts_in = (subst (FormRead b) e w).places
 
-    pub parts-checked : {s : HeadChecked} → HeadRead d b (some (library_head_at b p)) s → HeadRead d b (library_head_of b) s
+    pub parts-checked : {s : Result HeadChecked Refusal} → HeadRead d b (some (library_head_at b p)) s → HeadRead d b (library_head_of b) s
     parts-checked {s} v = subst (λ (x : Option LibraryHead). HeadRead d b x s) (sym (subst (FormRead b) e w).form) v
 
   -- the user unit stands at p; t is the answer on the stamps
@@ -67,37 +83,40 @@ module _ (d : Float) (b : List ℕ) where
     abbrev head : LibraryHead
     head = library_head_at b p
 
-    pub stamps-stop : not t ≡ true → HeadRead d b (some head) (H.Refused R.Stamp)
+    pub stamps-stop : not t ≡ true → HeadRead d b (some head) (Err R.Stamp)
     stamps-stop g = record { step = sym (need-off (stamps_fit head.stamps) R.Stamp (units_step head (file_head_of d head)) (sym f ∙ not-true t g)); places = tt }
 
     -- x is the user unit, and u the answer on the reals
-    module _ (g : not t ≡ false) {x : Float} (i : x ≡ double_at b p) {u : Units} (w : UnitsRead x d u) where
-      by_units : (v : Units) → u ≡ v → head_step d (some head) ≡ units_step head (head_encoded head v)
-      by_units v e =
+    module _ (g : not t ≡ false) {x : Float} (i : x ≡ double_at b p) (u : Code.Option Units) (w : UnitsRead x d u) where
+      by_units : head_step d (some head) ≡ units_step head (head_encoded head u)
+      by_units =
           need-on (stamps_fit head.stamps) R.Stamp (units_step head (file_head_of d head)) (sym f ∙ not-false t g)
-          ∙ ap (units_step head) (w.reals head (sym i) ∙ ap (head_encoded head) e)
+          ∙ ap (units_step head) (w.reals head (sym i))
 
-      pub units-stop : u ≡ U.Refused → HeadRead d b (some head) (H.Refused R.LibraryUnits)
-      units-stop e = record { step = sym (by_units U.Refused e); places = tt }
+      pub units-stop : u ≡ None → HeadRead d b (some head) (Err R.LibraryUnits)
+      units-stop e = record { step = sym (by_units ∙ ap (λ (v : Code.Option Units). units_step head (head_encoded head v)) e); places = tt }
 
       -- n is the name
-      module _ {user database : ℕ} (e : u ≡ U.Encoded user database) {n : List ℕ} (k : n ≡ string_at b 0) where
+      module _ (v : Units) (e : u ≡ Some v) (n : List ℕ) (k : n ≡ string_at b 0) where
         abbrev parts : HeadParts
-        parts = record { stamps = p + 8; user = user; database = database }
+        parts = record { stamps = p + 8; user = v.user; database = v.database }
 
-        pub name-stop : max_library_name_length < length n → HeadRead d b (some head) (H.Refused R.LibraryName)
+        by_parts : head_step d (some head) ≡ units_step head (head_encoded head (Some v))
+        by_parts = by_units ∙ ap (λ (v : Code.Option Units). units_step head (head_encoded head v)) e
+
+        pub name-stop : max_library_name_length < length n → HeadRead d b (some head) (Err R.LibraryName)
         name-stop l =
             let m : max_library_name_length < length (string_at b 0) = omega (arith, ap length k) in
-            record { step = sym (by_units (U.Encoded user database) e ∙ need-off (leb (length (string_at b 0)) max_library_name_length) R.LibraryName _ (lt-leb (length (string_at b 0)) max_library_name_length m)); places = tt }
+            record { step = sym (by_parts ∙ need-off (leb (length (string_at b 0)) max_library_name_length) R.LibraryName _ (lt-leb (length (string_at b 0)) max_library_name_length m)); places = tt }
 
-        pub head_passed : PartsIn b p → length n ≤ max_library_name_length → HeadRead d b (some head) (H.Passed parts (58 + length n + length n % 2))
+        pub head_passed : PartsIn b p → length n ≤ max_library_name_length → HeadRead d b (some head) (Ok (record { parts = parts; length = 58 + length n + length n % 2 }))
         unfolding file_head_at
         head_passed q l =
             let j = ap length k in
             let m : length (string_at b 0) ≤ max_library_name_length = omega arith in
             let z = head-length b parts in
             record {
-              step = sym (by_units (U.Encoded user database) e ∙ need-on (leb (length (string_at b 0)) max_library_name_length) R.LibraryName _ (le-leb (length (string_at b 0)) max_library_name_length m));
+              step = sym (by_parts ∙ need-on (leb (length (string_at b 0)) max_library_name_length) R.LibraryName _ (le-leb (length (string_at b 0)) max_library_name_length m));
               places = record {
                 places = record { name_in = q.name_in; name-short = m; stamps-in = q.stamps-in };
                 count = ap (λ (c : ℕ). 58 + c + c % 2) j ∙ sym z;

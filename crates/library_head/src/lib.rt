@@ -8,7 +8,7 @@ ghost use Rattle.sheet.specs.Library.{library_head_of};
 ghost use Rattle.library_head.specs.code.Head.{PartsIn, FormRead, UnitsRead, library_head_at, file_head_at, HeadIn, HeadRead};
 ghost use Rattle.std.proofs.Math.Option.{some};
 
-use gds_format::{Encoding, Real8};
+use gds_format::Real8;
 use refusal::Refusal;
 
 // Where the name stands in block 0. The user unit follows it, a double, and then the stamps.
@@ -25,18 +25,11 @@ const MAX_NAME_LENGTH: usize = 65530;
 // HEADER, BGNLIB, a LIBNAME of no byte, and UNITS.
 const HEAD_LENGTH: usize = 58;
 
-// Block 0: ill-formed, or the place of the user unit.
+// The reals of UNITS, each the pattern of its eight bytes.
 #[derive(Clone, Copy)]
-enum HeadForm {
-    Ill,
-    Head { unit: usize },
-}
-
-// The reals of UNITS: one refused, or the patterns of both.
-#[derive(Clone, Copy)]
-enum Units {
-    Refused,
-    Encoded { user: u64, database: u64 },
+struct Units {
+    user: u64,
+    database: u64,
 }
 
 // What the file's own records are made of: the place of the stamps, and the patterns of UNITS. The name stands at the start of the block.
@@ -47,90 +40,72 @@ pub struct HeadParts {
     pub database: u64,
 }
 
-// Block 0 checked: a refusal, or the parts of the file's own records and how many bytes these have.
+// Block 0 checked: the parts of the file's own records, and how many bytes these have.
 #[derive(Clone, Copy)]
-pub enum HeadChecked {
-    Refused { refusal: Refusal },
-    Passed { parts: HeadParts, length: usize },
+pub struct HeadChecked {
+    pub parts: HeadParts,
+    pub length: usize,
 }
 
-// The name, the user unit, and twelve numbers to the end of the block.
-fn head_form(b: &[u8]) -> HeadForm
+// The name, the user unit, and twelve numbers to the end of the block: the place of the user unit.
+fn head_form(b: &[u8]) -> Option<usize>
     ensures { FormRead b.now result }
 {
     if b.len() < block_places::NUMBER {
-        return HeadForm::Ill;
+        return None;
     }
     let unit = block_places::string_end(b, NAME);
     if b.len() != unit + DOUBLE + block_places::STAMPS {
-        return HeadForm::Ill;
+        return None;
     }
-    HeadForm::Head { unit }
+    Some(unit)
 }
 
 // `encode_unit` of both: a positive user unit, and two reals that have an encoding.
-fn encode_units(user_unit: f64, d: f64) -> Units
+fn encode_units(user_unit: f64, d: f64) -> Option<Units>
     ensures { UnitsRead user_unit d result }
 {
     if !binary64::is_positive(user_unit) {
-        return Units::Refused;
+        return None;
     }
-    match Real8::encode(user_unit) {
-        Encoding::Refused { error: _ } => Units::Refused,
-        Encoding::Encoded { real: user } => match Real8::encode(d) {
-            Encoding::Refused { error: _ } => Units::Refused,
-            Encoding::Encoded { real: database } => Units::Encoded {
-                user: user.pattern,
-                database: database.pattern,
-            },
-        },
-    }
+    let user = Real8::encode(user_unit).ok()?;
+    let database = Real8::encode(d).ok()?;
+    Some(Units {
+        user: user.pattern,
+        database: database.pattern,
+    })
 }
 
 // A well-formed head, by the place of its user unit: its stamps, the reals of UNITS, its name.
-fn check_parts(b: &[u8], unit: usize, d: f64) -> HeadChecked
+fn check_parts(b: &[u8], unit: usize, d: f64) -> Result<HeadChecked, Refusal>
     requires { PartsIn b.now unit }
     ensures { HeadRead d b.now (some (library_head_at b.now unit)) result }
 {
     let stamps = unit + DOUBLE;
     if !validation::stamps_fit(b, stamps) {
-        return HeadChecked::Refused {
-            refusal: Refusal::Stamp,
-        };
+        return Err(Refusal::Stamp);
     }
-    match encode_units(block_places::double(b, unit), d) {
-        Units::Refused => HeadChecked::Refused {
-            refusal: Refusal::LibraryUnits,
+    let units = encode_units(block_places::double(b, unit), d).ok_or(Refusal::LibraryUnits)?;
+    let n = block_places::string_at(b, NAME).len();
+    if n > MAX_NAME_LENGTH {
+        return Err(Refusal::LibraryName);
+    }
+    Ok(HeadChecked {
+        parts: HeadParts {
+            stamps,
+            user: units.user,
+            database: units.database,
         },
-        Units::Encoded { user, database } => {
-            let n = block_places::string_at(b, NAME).len();
-            if n > MAX_NAME_LENGTH {
-                return HeadChecked::Refused {
-                    refusal: Refusal::LibraryName,
-                };
-            }
-            HeadChecked::Passed {
-                parts: HeadParts {
-                    stamps,
-                    user,
-                    database,
-                },
-                length: HEAD_LENGTH + n + n % 2,
-            }
-        }
-    }
+        length: HEAD_LENGTH + n + n % 2,
+    })
 }
 
 // Block 0 of a library sheet: 23, 6, 24, 25, in this order.
-pub fn check_head(b: &[u8], d: f64) -> HeadChecked
+pub fn check_head(b: &[u8], d: f64) -> Result<HeadChecked, Refusal>
     ensures { HeadRead d b.now (library_head_of b.now) result }
 {
-    match head_form(b) {
-        HeadForm::Ill => HeadChecked::Refused {
-            refusal: Refusal::LibraryForm,
-        },
-        HeadForm::Head { unit } => check_parts(b, unit, d),
-    }
+    let unit = head_form(b).ok_or(Refusal::LibraryForm)?;
+    check_parts(b, unit, d)
 }
 
 // The file's own records at the start of the output; BGNLIB's data are the block's own 24 bytes. The place after them.

@@ -35,9 +35,6 @@ lead m n h =
         r : (z k : ℕ) → z + suc k ≡ 64 → z < 64
         r z k e = omega arith
 
-pub zeros-fit : {m z : ℕ} → Lead m z → z < 2 ^ 64
-zeros-fit l = omega arith
-
 -- the shift loses nothing
 pub lead-exact : {m z : ℕ} → Lead m z → m * 2 ^ z % 2 ^ 64 ≡ m * 2 ^ z
 lead-exact l = mod-eq_of_lt l.hi

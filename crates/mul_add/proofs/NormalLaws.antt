@@ -84,10 +84,6 @@ ready-product u v i a b c d e f = record {
     regroup : (q v : ℕ) → q * 4 * v ≡ q * v * 4
     regroup q v = mul_assoc q 4 v ∙ ap (λ (z : ℕ). q * z) (mul_comm 4 v) ∙ sym (mul_assoc q v 4)
 
-pub ready-addend : (w j : ℕ) → 2 ^ 62 ≤ w → w < 2 ^ 63 → j < 2 ^ 30 → Ready (w * 2 ^ raise) j
-ready-addend w j a b c = record { lo = omega arith; hi = omega arith; even = omega arith; small = c }
-
--- ---- from the words that are added to the sizes of x, y and z: the same two fractions
 pub product-same : (u v i j X Y : ℕ) → u * 2 ^ i ≡ X * 2 ^ word → v * 2 ^ j ≡ Y * 2 ^ word → u * v * 2 ^ (i + j) * (unit * unit) ≡ X * Y * 2 ^ scale
 product-same u v i j X Y a b =
     ap (λ (z : ℕ). z * (unit * unit))

@@ -1,2 +1,2 @@
--- What the steps of `mul_add` promise: numbers of two words, the sticky bit, normal digits, and the pattern of a rounded number.
+-- What the steps of `mul_add` promise: the sticky bit, normal digits, and the pattern of a rounded number.
 pub mod code

@@ -1,6 +1,5 @@
 -- What serves the contracts of inner functions and the proofs: nothing here need be believed.
 pub mod Places
-pub mod Wide
 pub mod Jam
 pub mod Normal
 pub mod Pattern

@@ -1,16 +1,14 @@
-// A number of one word or two, as a fraction over 2 ^ SCALE, to the nearest double.
+// A number of 64 bits or 128, as a fraction over 2 ^ SCALE, to the nearest double.
 ghost use Rattle.std.specs.Prelude.{◌≡◌, ◌*◌, ◌^◌, ◌≤◌, ◌<◌};
 ghost use Rattle.std.specs.Float.{binary64};
 ghost use Rattle.std.specs.Float.Ieee.{round};
 ghost use Rattle.std.specs.Float.Ieee.Nearest.{closest};
 ghost use Rattle.mul_add.specs.code.Places.{scale};
-ghost use Rattle.mul_add.specs.code.Wide.{wide};
 ghost use Rattle.mul_add.specs.code.Pattern.{Pattern};
 
-use super::places::{
-    EXCESS, HIDDEN, INFINITE_FROM, INFINITY, NORMAL_FROM, SIGN_BIT, UNIT_PLACE, WORD,
-};
-use super::wide::{Wide, shift_right_jam};
+use super::jam::shift_right_jam;
+use super::places::{EXCESS, HIDDEN, INFINITE_FROM, INFINITY, NORMAL_FROM, UNIT_PLACE, WORD};
+use binary64::SIGN;
 
 // Half of 2 ^ WORD.
 const HALF_RANGE: u64 = 0x8000_0000_0000_0000;
@@ -39,6 +37,7 @@ fn half_even(n: u64, shift: u64) -> u64
 }
 
 // The pattern of m * 2 ^ power over 2 ^ SCALE, rounded. A carry out of the digits adds one to the exponent's field, as it should.
+// Digits and power stand apart, here and below: a struct would be passed through memory, which takes time (docs/BENCHMARK.md).
 fn pattern(m: u64, power: u64) -> u64
     requires { power < 2 ^ 32 }
     ensures { Pattern m power result }
@@ -46,7 +45,7 @@ fn pattern(m: u64, power: u64) -> u64
     if m == 0 {
         0
     } else {
-        let z = u64::leading_zeros(m) as u64;
+        let z = m.leading_zeros() as u64;
         let n = m << z;
         let e = power + WORD - z;
         if e < NORMAL_FROM {
@@ -66,22 +65,22 @@ fn pack(negative: bool, m: u64, power: u64) -> f64
 {
     let p = pattern(m, power);
     if negative {
-        f64::from_bits(p + SIGN_BIT)
+        f64::from_bits(p + SIGN)
     } else {
         f64::from_bits(p)
     }
 }
 
-// The same of a number of two words: jammed to one, it rounds alike. The words stand apart, since a struct would be passed through memory.
-pub(crate) fn pack_wide(negative: bool, hi: u64, lo: u64, power: u64) -> f64
+// The same of a number of 128 bits: jammed to 64, it rounds alike.
+pub(crate) fn pack_wide(negative: bool, n: u128, power: u64) -> f64
     requires { power < 2 ^ 31 }
-    ensures { result ≡ round binary64 negative (wide hi lo * 2 ^ power) (2 ^ scale) }
+    ensures { result ≡ round binary64 negative (n * 2 ^ power) (2 ^ scale) }
 {
-    if hi == 0 {
-        pack(negative, lo, power)
+    if n >> WORD == 0 {
+        pack(negative, n as u64, power)
     } else {
-        let d = WORD - u64::leading_zeros(hi) as u64;
-        let w = shift_right_jam(Wide { hi, lo }, d);
-        pack(negative, w.lo, power + d)
+        let d = WORD - n.leading_zeros() as u64;
+        let w = shift_right_jam(n, d);
+        pack(negative, w as u64, power + d)
     }
 }

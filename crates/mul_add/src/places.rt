@@ -7,7 +7,7 @@ const PRECISION: u64 = 53;
 // Its exponent is at most 1023.
 const LARGEST_EXPONENT: u64 = 1023;
 // It is a whole number of 2 ^ -1074.
-const SMALLEST: u64 = 1074;
+const SMALLEST: u64 = binary64::ONE_POWER;
 // What is added or rounded is a fraction over 2 ^ SCALE.
 const SCALE: u64 = 2 * SMALLEST + 2 * WORD;
 // The places by which an addend is moved up, to be as long as a product.
@@ -24,7 +24,5 @@ pub(crate) const NORMAL_FROM: u64 = UNIT_PLACE - EXCESS;
 pub(crate) const INFINITE_FROM: u64 = NORMAL_FROM + 2 * LARGEST_EXPONENT;
 // One in the exponent's field of a pattern.
 pub(crate) const HIDDEN: u64 = 0x10_0000_0000_0000;
-// The sign of a pattern.
-pub(crate) const SIGN_BIT: u64 = 0x8000_0000_0000_0000;
 // The pattern of an infinity.
 pub(crate) const INFINITY: u64 = 0x7ff0_0000_0000_0000;

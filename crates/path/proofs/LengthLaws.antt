@@ -1,65 +1,34 @@
 -- The bytes of a path: those before the points, then the points; and how many there are. Assumes nothing.
 use mathlib.Core.Path.{◌≡◌, refl, sym, ap, ap₂, ◌∙◌, subst}
-use mathlib.Core.Bool.{Bool, true, false, not, cond}
+use mathlib.Core.Bool.{Bool, cond}
 use mathlib.Core.Option.{Option, none, some}
 use mathlib.Core.List.{List, [], ◌∷◌, ◌++◌, append-nil, append_assoc}
 use Prim.Native.Nat.{ℕ, ◌+◌, ◌*◌, ◌≤◌}
 use native.Mathlib.Omega.{arith}
-use lib.Dec.{eqb}
 use lib.ListN.{length, length-append}
 use lib.IntN.{ℤ}
+use Rattle.std.specs.Prelude as Code
+use Rattle.std.specs.Prelude.{Option as CodeOption}
 use Rattle.units.specs.Point.{Point}
 use Rattle.conversion.specs.declared.Entry.{Entry}
 use Rattle.sheet.specs.Element as S
 use Rattle.stream.specs.Record.{Rec, PATH, LAYER, DATATYPE, PATHTYPE, WIDTH, BGNEXTN, ENDEXTN, XY, four_byte, record_bytes, stream_bytes}
 use Rattle.stream.specs.Records.{empty_record, word_record, long_record, xy_record, points_bytes, opt, path_records}
 use Rattle.big_endian.proofs.BufferLaws.{nothing-at}
-use Rattle.records.specs.code.Bytes.{head_bytes, Placed, opt_bytes, option_of}
+use Rattle.records.specs.code.Bytes.{head_bytes, Placed, opt_bytes, opt_length, option_of}
 use Rattle.records.proofs.RecordLaws.{placed, then-placed, length-record, then-rest, then-opt}
 use Rattle.cell.specs.Write.{is_some}
-use Rattle.block_places.specs.code.Places.{path_type_of}
 use Rattle.points.proofs.WalkLaws.{length-bytes}
 use Rattle.path.specs.declared.Extent.{Extent}
 use Rattle.path.specs.code.Front.{OptExtent, opt_extent, Fits}
 use Rattle.path.specs.code.Length.{path_bytes, extent_records, head_records, path_head, extent_length, flags_length, head_length, path_length}
-use Rattle.path.proofs.FrontLaws.{same-extent}
 
--- ---- a flag and a value
+-- ---- a part that may be missing
 
-pub flag_is : {A : Type 0} (t : Bool) (v : A) → is_some (option_of t v) ≡ t
-flag_is true v = refl
-flag_is false v = refl
-
--- each piece of the head is as long as it may be at most
-pub record Small (typed : Bool) (x : Extent) : Type 0 where
-  pub type : cond typed 6 0 ≤ 6
-  pub width : cond x.wide 8 0 ≤ 8
-  pub begin : cond x.begun 8 0 ≤ 8
-  pub end : cond x.ended 8 0 ≤ 8
-
-pub pieces-small : (typed : Bool) (x : Extent) → Small typed x
-pieces-small typed x = record { type = go typed 6; width = go x.wide 8; begin = go x.begun 8; end = go x.ended 8 }
-  where
-    go : (t : Bool) (n : ℕ) → cond t n 0 ≤ n
-    go true n = omega arith
-    go false n = omega arith
-
--- the sheet's byte is the path type where it is there
-pub type-back : (k : ℕ) → option_of (is_some (path_type_of k)) k ≡ path_type_of k
-unfolding path_type_of
-type-back k = go (eqb k 255)
-  where
-    go : (t : Bool) → option_of (is_some (cond t none (some k))) k ≡ cond t none (some k)
-    go true = refl
-    go false = refl
-
-pub type-there : (k : ℕ) → not (eqb k 255) ≡ is_some (path_type_of k)
-unfolding path_type_of
-type-there k = go (eqb k 255)
-  where
-    go : (t : Bool) → not t ≡ is_some (cond t none (some k))
-    go true = refl
-    go false = refl
+-- its length by the code's option, and by that of the definitions
+pub length_there : {A : Type 0} (n : ℕ) (o : CodeOption A) → opt_length n o ≡ cond (is_some (option_of o)) n 0
+length_there n Code.None = refl
+length_there n (Code.Some a) = refl
 
 -- ---- rows of records: what comes after does not change those before
 
@@ -155,44 +124,40 @@ none-at : (d : List ℕ) (at : ℕ) → at ≤ length d → Placed (stream_bytes
 unfolding stream_bytes
 none-at d at h = placed (nothing-at d at h) refl
 
--- z1, z2 and z3 are what the machine reads back of the lengths
-pub extent-at : (x : Extent) {z1 z2 z3 : ℤ} {d d1 d2 d3 : List ℕ} {at a1 a2 a3 : ℕ} → z1 ≡ x.width → z2 ≡ x.begin → z3 ≡ x.end
-    → Placed (opt_bytes (long_record WIDTH) (option_of x.wide z1)) (cond x.wide 8 0) d d1 at a1
-    → Placed (opt_bytes (long_record BGNEXTN) (option_of x.begun z2)) (cond x.begun 8 0) d1 d2 a1 a2
-    → Placed (opt_bytes (long_record ENDEXTN) (option_of x.ended z3)) (cond x.ended 8 0) d2 d3 a2 a3
+pub extent_at : (x : Extent) {d d1 d2 d3 : List ℕ} {at a1 a2 a3 : ℕ}
+    → Placed (opt_bytes (long_record WIDTH) (option_of x.width)) (opt_length 8 x.width) d d1 at a1
+    → Placed (opt_bytes (long_record BGNEXTN) (option_of x.begin)) (opt_length 8 x.begin) d1 d2 a1 a2
+    → Placed (opt_bytes (long_record ENDEXTN) (option_of x.end)) (opt_length 8 x.end) d2 d3 a2 a3
     → Placed (stream_bytes (extent_records (opt_extent x) [])) (extent_length x) d d3 at a3
-extent-at x {z1} {z2} {z3} {d} {d1} {d2} {d3} {at} {a1} {a2} {a3} i1 i2 i3 u v w =
+extent_at x {d3 = d3} {a3 = a3} u v w =
     let c = w.wrote.count in
     let f = w.wrote.fits in
     let s = w.long in
     let k : a3 ≤ length d3 = omega arith in
-    subst (λ (l : OptExtent). Placed (stream_bytes (extent_records l [])) (extent_length x) d d3 at a3) (same-extent x.wide x.begun x.ended i1 i2 i3)
-    (resized (go (cond x.wide 8 0) (cond x.begun 8 0) (cond x.ended 8 0))
-    (then-opt (long_record WIDTH) (option_of x.wide z1) _ u (then-opt (long_record BGNEXTN) (option_of x.begun z2) _ v
-    (then-opt (long_record ENDEXTN) (option_of x.ended z3) [] w (none-at d3 a3 k)))))
+    resized (go (length_there 8 x.width) (length_there 8 x.begin) (length_there 8 x.end))
+    (then-opt (long_record WIDTH) (option_of x.width) _ u (then-opt (long_record BGNEXTN) (option_of x.begin) _ v
+    (then-opt (long_record ENDEXTN) (option_of x.end) [] w (none-at d3 a3 k))))
   where
-    go : (a b c : ℕ) → a + (b + (c + 0)) ≡ a + (b + c)
-    go a b c = omega arith
+    go : {a b c a' b' c' : ℕ} → a ≡ a' → b ≡ b' → c ≡ c' → a + (b + (c + 0)) ≡ a' + (b' + c')
+    go h i j = omega arith
 
--- the byte for the path type is k
-pub head_at : (layer datatype : ℕ) (typed : Bool) (k : ℕ) (x : Extent) (n : ℕ) {d d1 d2 d3 d4 d5 d6 : List ℕ} {at a1 a2 a3 a4 a5 a6 : ℕ} → typed ≡ is_some (path_type_of k)
+pub head_at : (layer datatype : ℕ) (k : CodeOption ℕ) (x : Extent) (n : ℕ) {d d1 d2 d3 d4 d5 d6 : List ℕ} {at a1 a2 a3 a4 a5 a6 : ℕ}
     → Placed (record_bytes (empty_record PATH)) 4 d d1 at a1 → Placed (record_bytes (word_record LAYER layer)) 6 d1 d2 a1 a2
-    → Placed (record_bytes (word_record DATATYPE datatype)) 6 d2 d3 a2 a3 → Placed (opt_bytes (word_record PATHTYPE) (option_of typed k)) (cond typed 6 0) d3 d4 a3 a4
+    → Placed (record_bytes (word_record DATATYPE datatype)) 6 d2 d3 a2 a3 → Placed (opt_bytes (word_record PATHTYPE) (option_of k)) (opt_length 6 k) d3 d4 a3 a4
     → Placed (stream_bytes (extent_records (opt_extent x) [])) (extent_length x) d4 d5 a4 a5 → Placed (head_bytes (4 + 8 * n) XY four_byte) 4 d5 d6 a5 a6
-    → Placed (path_head layer datatype (path_type_of k) (opt_extent x) n) (head_length (is_some (path_type_of k)) x) d d6 at a6
+    → Placed (path_head layer datatype (option_of k) (opt_extent x) n) (head_length (is_some (option_of k)) x) d d6 at a6
 unfolding path_head
-head_at layer datatype typed k x n {d} {d6 = d6} {at = at} {a6 = a6} e p q r s t u =
-    subst (λ (o : Option ℕ). Placed (path_head layer datatype o (opt_extent x) n) (head_length (is_some (path_type_of k)) x) d d6 at a6) (ap (λ (b : Bool). option_of b k) e ∙ type-back k)
-    (resized (go (cond typed 6 0) (extent_length x) ∙ ap (λ (b : Bool). head_length b x) e)
-    (then-placed (then-rest (empty_record PATH) _ p (then-rest (word_record LAYER layer) _ q (then-rest (word_record DATATYPE datatype) _ r (then-opt (word_record PATHTYPE) (option_of typed k) _ s t)))) u))
+head_at layer datatype k x n p q r s t u =
+    resized (go (extent_length x) (length_there 6 k))
+    (then-placed (then-rest (empty_record PATH) _ p (then-rest (word_record LAYER layer) _ q (then-rest (word_record DATATYPE datatype) _ r (then-opt (word_record PATHTYPE) (option_of k) _ s t)))) u)
   where
-    go : (a b : ℕ) → 4 + (6 + (6 + (a + b))) + 4 ≡ 20 + (a + b)
-    go a b = omega arith
+    go : {a a' : ℕ} (b : ℕ) → a ≡ a' → 4 + (6 + (6 + (a + b))) + 4 ≡ 20 + (a' + b)
+    go b h = omega arith
 
 -- ---- the room that the sheet asks for is the room that the code counts on
 
 pub path_room : (p : S.Path) (n : ℕ) (x : Extent) (e : Entry) → Fits p n x e → path_length p ≡ head_length (is_some p.path_type) x + 8 * length p.points
 unfolding path_length
 path_room p n x e f =
-    sym (ap (λ (t : Bool). flags_length (is_some p.path_type) t x.begun x.ended + 8 * length p.points) f.wide_is
+    sym (ap (λ (t : Bool). flags_length (is_some p.path_type) t (is_some (option_of x.begin)) (is_some (option_of x.end)) + 8 * length p.points) f.wide_is
     ∙ ap₂ (λ (t u : Bool). flags_length (is_some p.path_type) (is_some p.width) t u + 8 * length p.points) f.begun-is f.ended_is)

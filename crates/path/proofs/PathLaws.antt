@@ -1,5 +1,5 @@
 -- Measuring and writing a path: each way out of the code, and the length of what the definition gives. Assumes nothing.
-use mathlib.Core.Path.{◌≡◌, refl, sym, ap, ap₂, ◌∙◌, subst}
+use mathlib.Core.Path.{◌≡◌, refl, sym, ap, ap₂, ◌∙◌}
 use mathlib.Core.Bool.{Bool}
 use mathlib.Core.Option.{Option, none, some}
 use mathlib.Core.List.{List, ◌++◌}
@@ -8,6 +8,7 @@ use native.Mathlib.Omega.{arith}
 use lib.ListN.{length, length-append}
 use lib.IntN.{ℤ}
 use lib.Ieee.{Float}
+use Rattle.std.specs.Prelude.{Result, Ok, Err}
 use Rattle.refusal.specs.declared.Refusal.{Refusal}
 use Rattle.units.specs.declared.Unit as Units
 use Rattle.units.specs.Point.{Point}
@@ -25,26 +26,23 @@ use Rattle.sheet.specs.Element as S
 use Rattle.stream.specs.Structure as D
 use Rattle.stream.specs.Records.{points_bytes}
 use Rattle.records.specs.code.Bytes.{xy_point_length, Placed}
-use Rattle.steps.specs.declared.Measured.TheVariants as M
 use Rattle.steps.specs.declared.Written.{Written}
-use Rattle.steps.specs.code.Steps.{sizing, Measures, Writes}
+use Rattle.steps.specs.code.Steps.{through, sizing, Measures, Writes}
 use Rattle.steps.proofs.StepLaws.{run-through, stopped, written, putting, writes, outcome-of}
 use Rattle.cell.specs.Limits.{min_path_points, max_points}
 use Rattle.cell.specs.Write.{is_some, write_path}
 use Rattle.block_places.specs.declared.PathPlaces.{PathPlaces}
 use Rattle.block_places.specs.code.Places.{path_type_of, path_at}
 use Rattle.points.specs.declared.Walked.{Walked}
-use Rattle.points.specs.declared.Walked.TheVariants as W
 use Rattle.points.specs.code.Walk.{walked, with_length}
 use Rattle.points.proofs.WalkLaws.{length_from, run-counted}
 use Rattle.points.proofs.EndsLaws.{ends-length}
 use Rattle.path.specs.declared.Extent.{Extent}
 use Rattle.path.specs.declared.Lengths.{Lengths}
-use Rattle.path.specs.declared.Lengths.TheVariants as F
-use Rattle.path.specs.code.Front.{OptExtent, opt_extent, write_extent, write_front, ExtentFits, GivesExtent}
+use Rattle.path.specs.code.Front.{OptExtent, opt_extent, write_extent, write_front, GivesExtent}
 use Rattle.path.specs.code.Length.{path_bytes, path_head, flags_length, head_length, path_length}
 use Rattle.path.proofs.FrontLaws.{drawn, path-is, front-stops, front-goes-on, front-counted}
-use Rattle.path.proofs.LengthLaws.{flag_is, path-split, length-path, path_room}
+use Rattle.path.proofs.LengthLaws.{path-split, length-path, path_room}
 
 -- ---- where the front of the path at s gave the lengths x
 
@@ -54,49 +52,43 @@ pub record Known (b : List ℕ) (s : PathPlaces) (e : Entry) (x : Extent) (e' : 
   pub room : path_length (path_at b s) ≡ head_length (is_some (path_type_of s.pathtype)) x + xy_point_length * s.points.count
   pub grown : e'.count ≤ e.count + 3
 
-pub front-known : (policy : GdsRoundingPolicy) (d : Float) (b : List ℕ) (s : PathPlaces) (e : Entry) (r : Lengths) → GivesExtent (path_at b s) e (write_front policy d (path_at b s)) r
-    → (x : Extent) (e' : Entry) → r ≡ F.At x e' → Known b s e x e'
+pub front-known : (policy : GdsRoundingPolicy) (d : Float) (b : List ℕ) (s : PathPlaces) (e : Entry) (v : Lengths) → GivesExtent (path_at b s) e (write_front policy d (path_at b s)) (Ok v)
+    → Known b s e v.extent v.entry
 unfolding path_at
-front-known policy d b s e r h x e' g =
+front-known policy d b s e v h =
     let p = path_at b s in
     let n = length_from s.points.count b s.points.place in
-    let counts = front-counted policy d p e r h x e' g in
+    let counts = front-counted policy d p e v h in
     let least = counts.0 in
     let most = counts.1 in
-    let f = subst (ExtentFits p e.count) g h.fits in
     record {
       some = omega arith;
       counted = omega arith;
-      room = path_room p e.count x e' f ∙ ap (λ (k : ℕ). head_length (is_some p.path_type) x + 8 * k) n;
-      grown = f.grown;
+      room = path_room p e.count v.extent v.entry h.fits ∙ ap (λ (k : ℕ). head_length (is_some p.path_type) v.extent + 8 * k) n;
+      grown = h.fits.grown;
     }
 
-module _ (policy : GdsRoundingPolicy) (d : Float) (p : S.Path) (e : Entry) (r : Lengths) (h : GivesExtent p e (write_front policy d p) r) where
+module _ (policy : GdsRoundingPolicy) (d : Float) (p : S.Path) (e : Entry) where
   -- ---- refused before the points
 
-  pub measure-refused : (x : Refusal) → r ≡ F.Refused x → Measures path_bytes e (write_path policy d p) (M.Refused x)
-  measure-refused x g = front-stops policy d p M.Refused e (sizing path_bytes) r h x g
+  pub measure-refused : (x : Refusal) → GivesExtent p e (write_front policy d p) (Err x) → Measures path_bytes e (write_path policy d p) (Err x)
+  measure-refused x h = front-stops policy d p Err e (sizing path_bytes) x h
 
   -- ---- after the front
-  module _ (x : Extent) (e' : Entry) (g : r ≡ F.At x e') where
+  module _ (v : Lengths) (h : GivesExtent p e (write_front policy d p) (Ok v)) where
     abbrev l : OptExtent
-    l = opt_extent x
-
-    size : (ps : List (Point ℤ)) → length ps ≡ length p.points → length (path_bytes (drawn policy d p l ps)) ≡ head_length (is_some p.path_type) x + 8 * length p.points
-    size ps i =
-        length-path p.layer p.datatype p.path_type l ps (length p.points) i
-        ∙ ap (λ (t : Bool). flags_length (is_some p.path_type) t (is_some l.begin) (is_some l.end) + 8 * length p.points) (flag_is x.wide x.width)
-        ∙ ap₂ (λ (t u : Bool). flags_length (is_some p.path_type) x.wide t u + 8 * length p.points) (flag_is x.begun x.begin) (flag_is x.ended x.end)
+    l = opt_extent v.extent
 
     -- measured: s is what the points answer
-    pub path-measured : (k : ℕ) → k ≡ head_length (is_some p.path_type) x + 8 * length p.points → (s : Walked) → s ≡ run W.Refused e' (write_points policy d 0 p.points) walked
+    pub path-measured : (k : ℕ) → k ≡ head_length (is_some p.path_type) v.extent + 8 * length p.points → (s : Result Walked Refusal) → s ≡ run Err v.entry (write_points policy d 0 p.points) walked
         → Measures path_bytes e (write_path policy d p) (with_length k s)
     unfolding sizing
-    path-measured k i s v =
-        ap (with_length k) v
-        ∙ run-through W.Refused walked (with_length k) M.Refused (λ ps e''. M.Through k e'') (λ x. refl) (ends-length k) e' (write_points policy d 0 p.points)
-        ∙ run-counted M.Refused policy d 0 p.points e' (λ ps e''. M.Through k e'') (λ ps e''. sizing path_bytes (drawn policy d p l ps) e'') (λ ps e'' j. ap (λ (m : ℕ). M.Through m e'') (i ∙ sym (size ps j)))
-        ∙ front-goes-on policy d p M.Refused e (sizing path_bytes) r h x e' g
+    path-measured k i s g =
+        ap (with_length k) g
+        ∙ run-through Err walked (with_length k) Err (λ ps e''. through k e'') (λ x. refl) (ends-length k) v.entry (write_points policy d 0 p.points)
+        ∙ run-counted Err policy d 0 p.points v.entry (λ ps e''. through k e'') (λ ps e''. sizing path_bytes (drawn policy d p l ps) e'')
+        (λ ps e'' j. ap (λ (m : ℕ). through m e'') (i ∙ sym (length-path p.layer p.datatype p.path_type l ps (length p.points) j)))
+        ∙ front-goes-on policy d p Err e (sizing path_bytes) v h
 
     -- written: the head, then the points, n of them
     module _ (n : ℕ) (j : n ≡ length p.points) {m at to : ℕ} {before cur : List ℕ} (u : Placed (path_head p.layer p.datatype p.path_type l n) m before cur at to) where
@@ -114,13 +106,13 @@ module _ (policy : GdsRoundingPolicy) (d : Float) (p : S.Path) (e : Entry) (r : 
           go : (at to a b s : ℕ) → to ≡ at + a → s ≡ a + b → to + b ≡ at + s
           go at to a b s h k = omega arith
 
-      pub path-written : {last : List ℕ} {s : Written} → Writes points_bytes e' (write_points policy d 0 p.points) to cur last s → Writes path_bytes e (write_path policy d p) at before last s
+      pub path-written : {last : List ℕ} {s : Written} → Writes points_bytes v.entry (write_points policy d 0 p.points) to cur last s → Writes path_bytes e (write_path policy d p) at before last s
       path-written {last} {s} w =
           writes path_bytes e (write_path policy d p) at before last s.to s.entry
           (sym
-          (run-counted stopped policy d 0 p.points e' (putting points_bytes to cur) (λ ps e''. putting path_bytes at before (drawn policy d p l ps) e'') joined
-          ∙ front-goes-on policy d p stopped e (putting path_bytes at before) r h x e' g)
-          ∙ outcome-of points_bytes e' (write_points policy d 0 p.points) to cur last w)
+          (run-counted stopped policy d 0 p.points v.entry (putting points_bytes to cur) (λ ps e''. putting path_bytes at before (drawn policy d p l ps) e'') joined
+          ∙ front-goes-on policy d p stopped e (putting path_bytes at before) v h)
+          ∙ outcome-of points_bytes v.entry (write_points policy d 0 p.points) to cur last w)
           (go s.to _ _ w.wrote.count w.wrote.fits u.long)
         where
           go : (k m c : ℕ) → k ≡ to + m → to + m ≤ c → c ≡ length before → k ≤ length before

@@ -1,13 +1,13 @@
 // Paths: checked, measured, and written into the lent output (`write_path_with_converter` of write/mod.rs).
 #![tactic(auto)]
 
-ghost use Rattle.std.specs.Prelude.{◌≡◌, cond, [], ◌+◌, ◌≤◌, length};
+ghost use Rattle.std.specs.Prelude.{◌≡◌, [], ◌+◌, ◌≤◌, length};
 ghost use Rattle.stream.specs.Record.{stream_bytes};
 ghost use Rattle.conversion.specs.code.Fold.{Spare};
 ghost use Rattle.conversion.specs.Points.{write_length};
 ghost use Rattle.cell.specs.Limits.{max_points};
 ghost use Rattle.cell.specs.Write.{is_some, write_path};
-ghost use Rattle.records.specs.code.Bytes.{Placed};
+ghost use Rattle.records.specs.code.Bytes.{Placed, option_of};
 ghost use Rattle.steps.specs.code.Steps.{max_deviations, Measures, Succeeds, Writes};
 ghost use Rattle.block_places.specs.code.Place.{coordinate_at, coordinate_length};
 ghost use Rattle.block_places.specs.code.Places.{path_type_of, path_at, PathIn};
@@ -16,10 +16,8 @@ ghost use Rattle.path.specs.code.Length.{path_bytes, extent_records, path_head, 
 
 use block_places::PathPlaces;
 use conversion::{CoordinateConverter, Entry};
-use coordinate::Valued;
 use refusal::Refusal;
 use steps::{Measured, Written};
-use validation::Check;
 
 // "Points: .. path 2 to 8,191" (document 01).
 const MIN_PATH_POINTS: usize = 2;
@@ -29,36 +27,29 @@ const ALWAYS: usize = 20;
 
 // A length on the grid, if it is there, with the element's entry after it.
 #[derive(Clone, Copy)]
-enum Length {
-    Refused {
-        refusal: Refusal,
-    },
-    At {
-        there: bool,
-        value: i32,
-        entry: Entry,
-    },
+struct Length {
+    value: Option<i32>,
+    entry: Entry,
 }
 
 // The three lengths on the grid, each if it is there.
 #[derive(Clone, Copy)]
 struct Extent {
-    wide: bool,
-    width: i32,
-    begun: bool,
-    begin: i32,
-    ended: bool,
-    end: i32,
+    width: Option<i32>,
+    begin: Option<i32>,
+    end: Option<i32>,
 }
 
 // With the entry after them.
 #[derive(Clone, Copy)]
-enum Lengths {
-    Refused { refusal: Refusal },
-    At { extent: Extent, entry: Entry },
+struct Lengths {
+    extent: Extent,
+    entry: Entry,
 }
 
 // ---- before the points
+
+// Converter, block, places and entry by themselves, as every element's crate takes them: converter and block are those of the whole call, the entry is another after each step.
 
 // The length at a place of the block.
 fn convert_length(
@@ -67,27 +58,20 @@ fn convert_length(
     at: usize,
     field: u8,
     entry: Entry,
-) -> Length
+) -> Result<Length, Refusal>
     requires coordinate_length_in_bounds { at + coordinate_length ≤ length b.now }
     requires spare { Spare 1 entry }
     ensures { GivesLength (is_some (coordinate_at b.now at)) entry (write_length converter.policy converter.d field (coordinate_at b.now at)) result }
 {
     if block_places::is_absent(b, at) {
-        return Length::At {
-            there: false,
-            value: 0,
-            entry,
-        };
+        return Ok(Length { value: None, entry });
     }
     let c = coordinate::convert_at(converter, b, at);
-    match coordinate::record_quantization(c, field, conversion::NO_AXIS, 0, entry) {
-        Valued::Refused { refusal } => Length::Refused { refusal },
-        Valued::At { value, entry: e } => Length::At {
-            there: true,
-            value,
-            entry: e,
-        },
-    }
+    let valued = coordinate::record_quantization(c, field, conversion::NO_AXIS, 0, entry)?;
+    Ok(Length {
+        value: Some(valued.value),
+        entry: valued.entry,
+    })
 }
 
 // Width, begin and end, in this order.
@@ -96,49 +80,28 @@ fn convert_lengths(
     b: &[u8],
     path: PathPlaces,
     entry: Entry,
-) -> Lengths
+) -> Result<Lengths, Refusal>
     requires path_in { PathIn b.now path }
     requires spare { Spare 3 entry }
     ensures { GivesExtent (path_at b.now path) entry (write_extent converter.policy converter.d (path_at b.now path)) result }
 {
-    match convert_length(converter, b, path.width, conversion::WIDTH_FIELD, entry) {
-        Length::Refused { refusal } => Lengths::Refused { refusal },
-        Length::At {
-            there: wide,
-            value: width,
-            entry: e1,
-        } => {
-            match convert_length(converter, b, path.begin, conversion::BEGIN_FIELD, e1) {
-                Length::Refused { refusal: refusal2 } => Lengths::Refused { refusal: refusal2 },
-                Length::At {
-                    there: begun,
-                    value: begin,
-                    entry: e2,
-                } => {
-                    match convert_length(converter, b, path.end, conversion::END_FIELD, e2) {
-                        Length::Refused { refusal: refusal3 } => Lengths::Refused {
-                            refusal: refusal3,
-                        },
-                        Length::At {
-                            there: ended,
-                            value: end,
-                            entry: e3,
-                        } => Lengths::At {
-                            extent: Extent {
-                                wide,
-                                width,
-                                begun,
-                                begin,
-                                ended,
-                                end,
-                            },
-                            entry: e3,
-                        },
-                    }
-                }
-            }
-        }
-    }
+    let width = convert_length(converter, b, path.width, conversion::WIDTH_FIELD, entry)?;
+    let begin = convert_length(
+        converter,
+        b,
+        path.begin,
+        conversion::BEGIN_FIELD,
+        width.entry,
+    )?;
+    let end = convert_length(converter, b, path.end, conversion::END_FIELD, begin.entry)?;
+    Ok(Lengths {
+        extent: Extent {
+            width: width.value,
+            begin: begin.value,
+            end: end.value,
+        },
+        entry: end.entry,
+    })
 }
 
 // The checks, then the lengths.
@@ -147,48 +110,43 @@ fn convert_front(
     b: &[u8],
     path: PathPlaces,
     entry: Entry,
-) -> Lengths
+) -> Result<Lengths, Refusal>
     requires path_in { PathIn b.now path }
     requires spare { Spare 3 entry }
     ensures { GivesExtent (path_at b.now path) entry (write_front converter.policy converter.d (path_at b.now path)) result }
 {
-    match validation::check_shape(
+    validation::check_shape(
         MIN_PATH_POINTS,
         path.points.count,
         validation::MAX_POINTS,
         path.layer,
         path.datatype,
-    ) {
-        Check::Refused { refusal } => Lengths::Refused { refusal },
-        Check::Passed => convert_lengths(converter, b, path, entry),
-    }
+    )?;
+    convert_lengths(converter, b, path, entry)
 }
 
-// Whether the sheet's byte is a path type.
-fn has_path_type(pathtype: u8) -> bool
-    ensures { result ≡ is_some (path_type_of pathtype) }
+// The sheet's byte as a path type, if it is one.
+#[tactic(auto, unfolding(block_places::specs::code::Places::path_type_of))]
+fn path_type(pathtype: u8) -> Option<u16>
+    ensures { option_of result ≡ path_type_of pathtype }
 {
-    pathtype != block_places::NO_PATH_TYPE
+    match pathtype {
+        block_places::NO_PATH_TYPE => None,
+        k => Some(k as u16),
+    }
 }
 
 // ---- measured
 
-// The bytes of a record that may be missing.
-fn size_if(there: bool, size: usize) -> usize
-    ensures { result ≡ cond there size 0 }
-{
-    if there { size } else { 0 }
-}
-
 // The bytes of all records before the points, with the head of the XY.
-fn head_length(typed: bool, extent: Extent) -> usize
-    ensures { HeadSize typed extent result }
+fn head_length(path_type: Option<u16>, extent: Extent) -> usize
+    ensures { HeadSize (is_some (option_of path_type)) extent result }
 {
-    let a = size_if(typed, records::WORD_RECORD);
-    let w = size_if(extent.wide, records::LONG_RECORD);
-    let b = size_if(extent.begun, records::LONG_RECORD);
-    let e = size_if(extent.ended, records::LONG_RECORD);
-    ALWAYS + a + w + b + e
+    let kind = block_places::size_if(path_type.is_some(), records::WORD_RECORD);
+    let width = block_places::size_if(extent.width.is_some(), records::LONG_RECORD);
+    let begin = block_places::size_if(extent.begin.is_some(), records::LONG_RECORD);
+    let end = block_places::size_if(extent.end.is_some(), records::LONG_RECORD);
+    ALWAYS + kind + width + begin + end
 }
 
 // The first refusal, or the length of all records and the entry.
@@ -197,20 +155,16 @@ pub fn measure_path(
     b: &[u8],
     path: PathPlaces,
     entry: Entry,
-) -> Measured
+) -> Result<Measured, Refusal>
     requires path_in { PathIn b.now path }
     requires spare { Spare max_deviations entry }
     ensures { Measures path_bytes entry (write_path converter.policy converter.d (path_at b.now path)) result }
 {
-    match convert_front(converter, b, path, entry) {
-        Lengths::Refused { refusal } => Measured::Refused { refusal },
-        Lengths::At { extent, entry: e } => {
-            let points = path.points;
-            let walked = points::measure_points(converter, b, points.place, points.count, e);
-            let head = head_length(has_path_type(path.pathtype), extent);
-            points::with_length(walked, head + records::XY_POINT * points.count)
-        }
-    }
+    let front = convert_front(converter, b, path, entry)?;
+    let points = path.points;
+    let walked = points::measure_points(converter, b, points.place, points.count, front.entry);
+    let head = head_length(path_type(path.pathtype), front.extent);
+    points::with_length(walked, head + records::XY_POINT * points.count)
 }
 
 // ---- written
@@ -220,9 +174,9 @@ fn put_extent(out: &mut [u8], at: usize, extent: Extent) -> usize
     requires { at + extent_length extent ≤ length out.old }
     ensures { Placed (stream_bytes (extent_records (opt_extent extent) [])) (extent_length extent) out.old out.new at result }
 {
-    let w = records::put_opt_long_at(out, at, records::WIDTH, extent.wide, extent.width);
-    let b = records::put_opt_long_at(out, w, records::BGNEXTN, extent.begun, extent.begin);
-    records::put_opt_long_at(out, b, records::ENDEXTN, extent.ended, extent.end)
+    let a1 = records::put_opt_long_at(out, at, records::WIDTH, extent.width);
+    let a2 = records::put_opt_long_at(out, a1, records::BGNEXTN, extent.begin);
+    records::put_opt_long_at(out, a2, records::ENDEXTN, extent.end)
 }
 
 // All records before the points, with the head of the XY.
@@ -231,14 +185,13 @@ fn put_head(out: &mut [u8], path: PathPlaces, extent: Extent) -> usize
     requires extent_in_bounds { head_length (is_some (path_type_of path.pathtype)) extent ≤ length out.old }
     ensures { Placed (path_head path.layer path.datatype (path_type_of path.pathtype) (opt_extent extent) path.points.count) (head_length (is_some (path_type_of path.pathtype)) extent) out.old out.new 0 result }
 {
-    let n = (records::RECORD_HEAD + records::XY_POINT * path.points.count) as u16;
-    let typed = has_path_type(path.pathtype);
-    let p = records::put_empty_at(out, 0, records::PATH);
-    let l = records::put_word_at(out, p, records::LAYER, records::TWO_BYTE, path.layer);
-    let t = records::put_word_at(out, l, records::DATATYPE, records::TWO_BYTE, path.datatype);
-    let k = records::put_opt_word_at(out, t, records::PATHTYPE, typed, path.pathtype as u16);
-    let x = put_extent(out, k, extent);
-    records::put_head_at(out, x, n, records::XY, records::FOUR_BYTE)
+    let len = (records::RECORD_HEAD + records::XY_POINT * path.points.count) as u16;
+    let a1 = records::put_empty_at(out, 0, records::PATH);
+    let a2 = records::put_word_at(out, a1, records::LAYER, records::TWO_BYTE, path.layer);
+    let a3 = records::put_word_at(out, a2, records::DATATYPE, records::TWO_BYTE, path.datatype);
+    let a4 = records::put_opt_word_at(out, a3, records::PATHTYPE, path_type(path.pathtype));
+    let a5 = put_extent(out, a4, extent);
+    records::put_head_at(out, a5, len, records::XY, records::FOUR_BYTE)
 }
 
 // All records from the start of the output on: every length is converted before the first byte is written.
@@ -255,20 +208,18 @@ pub fn put_path(
     requires spare { Spare max_deviations entry }
     ensures { Writes path_bytes entry (write_path converter.policy converter.d (path_at b.now path)) 0 out.old out.new result }
 {
-    match convert_lengths(converter, b, path, entry) {
-        // Never: no length is refused.
-        Lengths::Refused { refusal: _ } => Written { to: 0, entry },
-        Lengths::At { extent, entry: e } => {
-            let to = put_head(out, path, extent);
-            let front = Written { to, entry: e };
-            points::put_points(
-                converter,
-                b,
-                path.points.place,
-                path.points.count,
-                out,
-                front,
-            )
-        }
-    }
+    let lengths = convert_lengths(converter, b, path, entry).unwrap();
+    let to = put_head(out, path, lengths.extent);
+    let front = Written {
+        to,
+        entry: lengths.entry,
+    };
+    points::put_points(
+        converter,
+        b,
+        path.points.place,
+        path.points.count,
+        out,
+        front,
+    )
 }

@@ -2,13 +2,13 @@
 use mathlib.Core.Path.{◌≡◌, refl, sym, ap, ap₂, ◌∙◌, subst}
 use mathlib.Core.Bool.{true, false}
 use mathlib.Core.List.{List, [], ◌∷◌, ◌++◌, append-nil}
-use Prim.Native.Nat.{ℕ, zero, suc, ◌+◌, ◌-◌, ◌*◌, ◌≤◌}
+use Prim.Native.Nat.{ℕ, zero, suc, ◌+◌, ◌-◌, ◌*◌, ◌≤◌, max}
 use native.Mathlib.Nat.{zero-add}
-use native.Mathlib.Numerals.{one-add}
 use native.Mathlib.Omega.{arith}
 use lib.ListN.{length, length-append}
 use lib.IntN.{ℤ}
 use lib.Ieee.{Float}
+use Rattle.std.specs.Prelude.{Ok, Err}
 use Rattle.refusal.specs.declared.Refusal.{Refusal}
 use Rattle.units.specs.Point.{Point}
 use Rattle.big_endian.specs.Buffer.{splice, WroteAt}
@@ -24,24 +24,12 @@ use Rattle.cell.specs.Write.{last_of}
 use Rattle.steps.specs.declared.Written.{Written}
 use Rattle.steps.specs.code.Steps.{Succeeds, Writes}
 use Rattle.steps.proofs.StepLaws.{succeeds-as, stopped, written, putting, writes, outcome-of}
+use Rattle.coordinate.specs.code.Coordinate.{at_point}
 use Rattle.block_places.specs.code.Place.{values_from, points_from}
-use Rattle.points.specs.declared.Walked.TheVariants as W
-use Rattle.points.specs.code.Walk.{rest_from, through, walked}
+use Rattle.points.specs.code.Walk.{through, walked}
 use Rattle.points.specs.code.Integers.{integers_from, AllPass}
 use Rattle.points.proofs.WalkLaws.{length_from, run-counted}
-use Rattle.points.proofs.IntegerLaws.{place-next, run-passing}
-
--- ---- where the rest begins
-
-pub rest-there : (k : ℕ) → (k ≡ 0 → ⊥) → rest_from k ≡ k
-unfolding rest_from
-rest-there zero h = absurd (h refl)
-rest-there (suc k) h = refl
-
-pub rest-within : (k n : ℕ) → 1 ≤ n → k ≤ n → (1 ≤ rest_from k) × (rest_from k ≤ n)
-unfolding rest_from
-rest-within zero n h l = (omega arith, omega arith)
-rest-within (suc k) n h l = (omega arith, omega arith)
+use Rattle.points.proofs.IntegerLaws.{run-passing}
 
 -- ---- as a loop over the rest has it, from place p on
 
@@ -52,9 +40,6 @@ module _ (policy : GdsRoundingPolicy) (d : Float) (p m : ℕ) (b : List ℕ) (at
   pub rest-first : {R : Type 0} (stop : Refusal → R) (e : Entry) (k : List (Point ℤ) → Entry → R)
       → run stop e (write_points policy d p (points_from m b at)) k ≡ run stop e (write_points policy d p (points_from (p + m - p) b at)) k
   rest-first stop e k = ap (λ (j : ℕ). run stop e (write_points policy d p (points_from j b at)) k) (ends_at p m)
-
-  pub first-accepted : Succeeds (write_points policy d p (points_from m b at)) → Succeeds (write_points policy d p (points_from (p + m - p) b at))
-  first-accepted g = subst (λ (j : ℕ). Succeeds (write_points policy d p (points_from j b at))) (ends_at p m) g
 
 -- ---- written
 
@@ -104,11 +89,11 @@ module _ (policy : GdsRoundingPolicy) (d : Float) (b : List ℕ) (n k m from at 
 
 -- all of them: the ends, and the entry as it is
 pub pass-measured : (policy : GdsRoundingPolicy) (d : Float) (b : List ℕ) (n from : ℕ) → AllPass d b n from → (e : Entry)
-    → run W.Refused e (write_points policy d 0 (points_from n b from)) walked ≡ walked (integers_from n b from) e
+    → run Err e (write_points policy d 0 (points_from n b from)) walked ≡ walked (integers_from n b from) e
 unfolding write_points values_from
 pass-measured policy d b n from h e =
-    after policy d b n n 0 from (from + 34 * n) (zero-add n) refl h e W.Refused 0 walked
-    ∙ run-pure W.Refused e [] (λ qs e'. walked (integers_from n b from ++ qs) e')
+    after policy d b n n 0 from (from + 34 * n) (zero-add n) refl h e Err 0 walked
+    ∙ run-pure Err e [] (λ qs e'. walked (integers_from n b from ++ qs) e')
     ∙ ap (λ (ps : List (Point ℤ)). walked ps e) (append-nil (integers_from n b from))
 
 -- points in front of others do not change which is the last
@@ -117,30 +102,25 @@ last-after f ps [] h = absurd (omega arith)
 last-after f [] (q ∷ qs) h = refl
 last-after f (p ∷ ps) (q ∷ qs) h = last-after p ps (q ∷ qs) h
 
--- some of them, but not all: the first is q, and the others tell which is the last
-pub rest-measured : (policy : GdsRoundingPolicy) (d : Float) (b : List ℕ) (n k m from at : ℕ) → (k ≡ n → ⊥) → m + rest_from k ≡ n → at ≡ from + 34 * rest_from k → AllPass d b k from → (e : Entry) (q : Point ℤ)
-    → run W.Refused e (write_points policy d 1 (points_from (n - 1) b (from + 34))) (λ qs e'. walked (q ∷ qs) e') ≡ run W.Refused e (write_points policy d (rest_from k) (points_from m b at)) (through q q)
-unfolding rest_from walked through
-rest-measured policy d b n zero m from at x l f h e q = ap₂ (λ (j k : ℕ). run W.Refused e (write_points policy d 1 (points_from j b k)) (through q q)) (count n m l) (place from at f)
+-- some of them, but not all: the first is q, and the others, from place j on, tell which is the last. The first is met in any case.
+pub rest-measured : (policy : GdsRoundingPolicy) (d : Float) (b : List ℕ) (n k j m from at : ℕ) → j ≡ max k 1 → (k ≡ n → ⊥) → m + j ≡ n → at ≡ from + 34 * j → AllPass d b k from → (e : Entry) (q : Point ℤ)
+    → run Err e (write_points policy d 1 (points_from (n - 1) b (from + 34))) (λ qs e'. walked (q ∷ qs) e') ≡ run Err e (write_points policy d j (points_from m b at)) (through q q)
+unfolding walked through
+rest-measured policy d b n zero j m from at r x l f h e q =
+    let one : 1 ≡ j = omega arith in
+    let count : n - 1 ≡ m = omega arith in
+    let place : from + 34 ≡ at = omega arith in
+    ap₂ (λ (j k : ℕ). run Err e (write_points policy d 1 (points_from j b k)) (through q q)) count place
+    ∙ ap (λ (j : ℕ). run Err e (write_points policy d j (points_from m b at)) (through q q)) one
+rest-measured policy d b n (suc k) j m from at r x l f h e q =
+    let there : 1 + k ≡ j = omega arith in
+    let count : m + k ≡ n - 1 = omega arith in
+    let place : at ≡ from + 34 + 34 * k = omega arith in
+    after policy d b (n - 1) k m (from + 34) at count place h.2 e Err 1 (through q q)
+    ∙ run-counted Err policy d (1 + k) (points_from m b at) e _ (through q q) (last (omega arith))
+    ∙ ap (λ (j : ℕ). run Err e (write_points policy d j (points_from m b at)) (through q q)) there
   where
-    count : (n m : ℕ) → m + 1 ≡ n → n - 1 ≡ m
-    count n m l = omega arith
-
-    place : (from at : ℕ) → at ≡ from + 34 * 1 → from + 34 ≡ at
-    place from at f = omega arith
-rest-measured policy d b n (suc k) m from at x l f h e q =
-    after policy d b (n - 1) k m (from + 34) at (count n k m l) (f ∙ sym (place-next from k)) h.2 e W.Refused 1 (through q q)
-    ∙ run-counted W.Refused policy d (1 + k) (points_from m b at) e _ (through q q) last
-    ∙ ap (λ (j : ℕ). run W.Refused e (write_points policy d j (points_from m b at)) (through q q)) (one-add k)
-  where
-    count : (n k m : ℕ) → m + suc k ≡ n → m + k ≡ n - 1
-    count n k m l = omega arith
-
-    some_left : (n k m : ℕ) → (suc k ≡ n → ⊥) → m + suc k ≡ n → 1 ≤ m
-    some_left n k m x l = omega arith
-
-    last : (qs : List (Point ℤ)) (e' : Entry) → length qs ≡ length (points_from m b at) → through q q (integers_from k b (from + 34) ++ qs) e' ≡ through q q qs e'
-    last qs e' g =
+    last : 1 ≤ m → (qs : List (Point ℤ)) (e' : Entry) → length qs ≡ length (points_from m b at) → through q q (integers_from k b (from + 34) ++ qs) e' ≡ through q q qs e'
+    last some qs e' g =
         let i = length_from m b at in
-        let j = some_left n k m x l in
-        ap (λ (p : Point ℤ). W.Through q.x q.y p.x p.y e') (last-after q (integers_from k b (from + 34)) qs (omega arith))
+        ap (λ (p : Point ℤ). Ok (record { first = at_point q; last = at_point p; entry = e' })) (last-after q (integers_from k b (from + 34)) qs (omega arith))

@@ -1,43 +1,34 @@
 -- Points in turn: a turn of each loop, whatever is to follow, and how many points there are. Assumes nothing.
 use mathlib.Core.Path.{◌≡◌, refl, sym, ap, ap₂, ◌∙◌, subst}
-use mathlib.Core.List.{List, [], ◌∷◌, ◌++◌}
+use mathlib.Core.List.{List, [], ◌∷◌}
 use Prim.Native.Nat.{ℕ, zero, suc, ◌+◌, ◌-◌, ◌*◌, ◌≤◌, ◌<◌}
 use native.Mathlib.Omega.{arith}
 use lib.ListN.{length}
 use lib.IntN.{ℤ}
 use lib.Ieee.{Float}
-use mir.Syntax.{w32}
-use mir.Val.{SFits, to_z, of_z}
-use mir.ValLaws.{to_z-of_z}
+use Rattle.std.specs.Prelude.{Result, Ok, Err}
 use Rattle.refusal.specs.declared.Refusal.{Refusal}
 use Rattle.units.specs.declared.Unit.{Unit}
 use Rattle.units.specs.Point.{Point}
 use Rattle.big_endian.specs.Buffer.{WroteAt}
 use Rattle.big_endian.proofs.BufferLaws.{at_turn, at-end}
+use Rattle.conversion.specs.declared.DatabasePoint.{DatabasePoint}
 use Rattle.conversion.specs.declared.Deviation.{Deviation}
 use Rattle.conversion.specs.declared.Entry.{Entry}
 use Rattle.conversion.specs.declared.GdsRoundingPolicy.{GdsRoundingPolicy}
 use Rattle.conversion.specs.Made.{Made, made}
+use Rattle.conversion.specs.code.Answer.{grid_point_of}
 use Rattle.conversion.specs.code.Fold.{blank_entry, run}
 use Rattle.conversion.specs.Points.{write_point, write_points}
 use Rattle.conversion.proofs.FoldLaws.{run-pure, run-same}
 use Rattle.conversion.proofs.MadeLaws.{steps}
-use Rattle.stream.specs.Records.{long_bytes, points_bytes}
+use Rattle.stream.specs.Records.{point_bytes, points_bytes}
 use Rattle.steps.specs.code.Steps.{Succeeds}
 use Rattle.steps.proofs.StepLaws.{yields, succeeds, written, putting}
 use Rattle.block_places.specs.code.Place.{values_from, point_at, points_from}
 use Rattle.coordinate.specs.declared.Pointed.{Pointed}
-use Rattle.coordinate.specs.declared.Pointed.TheVariants as P
 use Rattle.coordinate.specs.code.Coordinate.{pointed, GivesPoint}
-use Rattle.coordinate.proofs.ValueLaws.{same_point}
 use Rattle.coordinate.proofs.TurnLaws.{spread, turn, first-met}
-
--- a point by its bits, as code has it between two calls
-abbrev pub point_of : ℕ → ℕ → Point ℤ
-point_of x y = record { x = to_z w32 x; y = to_z w32 y }
-
-pub point-back : (x y : ℤ) → SFits w32 x → SFits w32 y → ◌≡◌ {A = Point ℤ} (point_of (of_z w32 x) (of_z w32 y)) (record { x = x; y = y })
-point-back x y f g = ap₂ (λ (u v : ℤ). record { x = u; y = v }) (to_z-of_z w32 x f) (to_z-of_z w32 y g)
 
 pub length_from : (n : ℕ) (s : List ℕ) (at : ℕ) → length (points_from n s at) ≡ n
 unfolding values_from
@@ -77,7 +68,7 @@ module _ {R : Type 0} (stop : Refusal → R) where
       abbrev next : Point ℤ → Entry → R
       next q e' = run stop e' (write_points policy d (i + 1) (points_from (n - (i + 1)) s (at + 34))) (λ qs e''. k (q ∷ qs) e'')
 
-      met : i < n → (r : Pointed) → GivesPoint e (write_point policy d 0 i (point_at s at)) r → run stop e (write_points policy d i (points_from (n - i) s at)) k ≡ spread stop next r
+      met : i < n → (r : Result Pointed Refusal) → GivesPoint e (write_point policy d 0 i (point_at s at)) r → run stop e (write_points policy d i (points_from (n - i) s at)) k ≡ spread stop next r
       met h r c =
           ap (λ (ps : List (Point Unit)). run stop e (write_points policy d i ps) k) (points-next n i s at h)
           ∙ first-met stop policy d e i (point_at s at) (points_from (n - (i + 1)) s (at + 34)) k r c
@@ -86,12 +77,12 @@ module _ {R : Type 0} (stop : Refusal → R) where
           go : (i : ℕ) → suc i ≡ i + 1
           go i = omega arith
 
-      pub go_on : i < n → (r : Pointed) → GivesPoint e (write_point policy d 0 i (point_at s at)) r → (x y : ℤ) (e2 : Entry) → r ≡ P.At x y e2
-          → run stop e (write_points policy d i (points_from (n - i) s at)) k ≡ run stop e2 (write_points policy d (i + 1) (points_from (n - (i + 1)) s (at + 34))) (λ qs e'. k (record { x = x; y = y } ∷ qs) e')
-      go_on h r c x y e2 g = met h r c ∙ ap (spread stop next) g
+      pub go_on : i < n → (v : Pointed) → GivesPoint e (write_point policy d 0 i (point_at s at)) (Ok v)
+          → run stop e (write_points policy d i (points_from (n - i) s at)) k ≡ run stop v.entry (write_points policy d (i + 1) (points_from (n - (i + 1)) s (at + 34))) (λ qs e'. k (grid_point_of v.point ∷ qs) e')
+      go_on h v c = met h (Ok v) c
 
-      pub go-stop : i < n → (r : Pointed) → GivesPoint e (write_point policy d 0 i (point_at s at)) r → (x : Refusal) → r ≡ P.Refused x → run stop e (write_points policy d i (points_from (n - i) s at)) k ≡ stop x
-      go-stop h r c x g = met h r c ∙ ap (spread stop next) g
+      pub go-stop : i < n → (x : Refusal) → GivesPoint e (write_point policy d 0 i (point_at s at)) (Err x) → run stop e (write_points policy d i (points_from (n - i) s at)) k ≡ stop x
+      go-stop h x c = met h (Err x) c
 
       pub go-end : n ≤ i → run stop e (write_points policy d i (points_from (n - i) s at)) k ≡ k [] e
       unfolding write_points
@@ -119,12 +110,12 @@ length-bytes (q ∷ qs) = let h = length-bytes qs in omega arith
 
 -- ---- a turn that writes: what is still to be written stands at the place reached
 
-pub put-turn : (x y : ℤ) {at r : ℕ} {d d' : List ℕ} → WroteAt (long_bytes x ++ long_bytes y) d d' at r → (qs : List (Point ℤ)) (e : Entry)
-    → putting points_bytes at d (record { x = x; y = y } ∷ qs) e ≡ putting points_bytes r d' qs e
+pub put-turn : (q : Point ℤ) {at r : ℕ} {d d' : List ℕ} → WroteAt (point_bytes q) d d' at r → (qs : List (Point ℤ)) (e : Entry)
+    → putting points_bytes at d (q ∷ qs) e ≡ putting points_bytes r d' qs e
 unfolding putting
-put-turn x y {at} {r} w qs e =
+put-turn q {at} {r} w qs e =
     let k = w.count in
-    let z : at + length (points_bytes (record { x = x; y = y } ∷ qs)) ≡ r + length (points_bytes qs) = omega arith in
+    let z : at + length (points_bytes (q ∷ qs)) ≡ r + length (points_bytes qs) = omega arith in
     ap₂ (λ (o : List ℕ) (j : ℕ). written o j e) (at_turn w (points_bytes qs)) z
 
 pub put-end : (at : ℕ) (d : List ℕ) (e : Entry) → putting points_bytes at d [] e ≡ written d at e
@@ -133,30 +124,18 @@ put-end at d e =
     let z : at + 0 ≡ at = omega arith in
     ap₂ (λ (o : List ℕ) (j : ℕ). written o j e) (at-end at d) z
 
--- a point converted and put: x and y are what the machine reads back of it
-pub record Turn (e : Entry) (m : Made (Point ℤ)) (to : ℕ) (out : List ℕ) (to' : ℕ) (out' : List ℕ) (e' : Entry) : Type 0 where
-  pub x : ℤ
-  pub y : ℤ
-  pub converts : GivesPoint e m (P.At x y e')
-  pub wrote : WroteAt (long_bytes x ++ long_bytes y) out out' to to'
+-- ---- a point converted, as the code has its parts
 
-pub point-put : {e : Entry} {m : Made (Point ℤ)} {r : Pointed} → GivesPoint e m r → (x y : ℤ) (e1 : Entry) → r ≡ P.At x y e1 → SFits w32 x → SFits w32 y
-    → {to to1 to' : ℕ} {out out1 out' : List ℕ} {e' : Entry} → WroteAt (long_bytes (to_z w32 (of_z w32 x)) ++ long_bytes (to_z w32 (of_z w32 y))) out out1 to to1
-    → out' ≡ out1 → to' ≡ to1 → e' ≡ e1 → Turn e m to out to' out' e'
-point-put {e} {m} {r} c x y e1 g f h {to} {to1} {to'} {out} {out1} {out'} {e'} w i j k =
-    let q : r ≡ P.At x y e' = cc in
-    let bs = long_bytes x ++ long_bytes y in
-    let v : WroteAt bs out out1 to to1 = same_point (to_z-of_z w32 x f) (to_z-of_z w32 y h) w in
-    record { x = x; y = y; converts = subst (GivesPoint e m) q c; wrote = subst (λ (o : List ℕ). WroteAt bs out o to to') (sym i) (subst (λ (t : ℕ). WroteAt bs out out1 to t) (sym j) v) }
+pub same-pointed : {e : Entry} {m : Made (Point ℤ)} (v : Pointed) (p : DatabasePoint) (e' : Entry) → GivesPoint e m (Ok v) → p ≡ v.point → e' ≡ v.entry → GivesPoint e m (Ok (record { point = p; entry = e' }))
+same-pointed {e} {m} v p e' c i j = subst (λ (w : Pointed). GivesPoint e m (Ok w)) (ap₂ (λ (q : DatabasePoint) (x : Entry). record { point = q; entry = x }) (sym i) (sym j)) c
 
 -- ---- points that succeed: no point is refused
 
-pub never-pointed : {X : Type 0} {e : Entry} {m : Made (Point ℤ)} {r : Pointed} {x : Refusal} → Succeeds m → GivesPoint e m r → r ≡ P.Refused x → X
+pub never-pointed : {X : Type 0} {e : Entry} {m : Made (Point ℤ)} {x : Refusal} → Succeeds m → GivesPoint e m (Err x) → X
 unfolding run
-never-pointed {e = e} s c g =
-    let h = sym g ∙ c.is ∙ ap (λ (n : Made (Point ℤ)). run P.Refused e n pointed) s.makes in
-    let z : ◌≡◌ {A = ℕ} 0 1 = cc in
-    absurd (omega arith)
+never-pointed {e = e} s c =
+    let h = c.is ∙ ap (λ (n : Made (Point ℤ)). run Err e n pointed) s.makes in
+    cc
 
 -- the first, and the others
 pub record First (policy : GdsRoundingPolicy) (d : Float) (i j : ℕ) (p : Point Unit) (ps : List (Point Unit)) : Type 0 where

@@ -1,24 +1,21 @@
 // Lists of points of the sheet: measured with the element's report entry, and written into the lent output (`write_points_to_file` of write/mod.rs).
 #![tactic(auto)]
 
-ghost use Rattle.std.specs.Prelude.{◌≡◌, true, ◌+◌, ◌*◌, ◌≤◌, length};
-ghost use Rattle.std.specs.Int.{w64};
-ghost use Rattle.std.proofs.Common.{Fits};
+ghost use Rattle.std.specs.Prelude.{◌≡◌, true, ◌+◌, ◌*◌, ◌≤◌, length, drop, Ok, Err};
 ghost use Rattle.conversion.specs.code.Fold.{run, Spare};
 ghost use Rattle.conversion.specs.Points.{write_points};
+ghost use Rattle.conversion.specs.code.Answer.{grid_point_of};
 ghost use Rattle.stream.specs.Records.{points_bytes};
 ghost use Rattle.records.specs.code.Bytes.{xy_point_length};
 ghost use Rattle.steps.specs.code.Steps.{Succeeds, Writes};
 ghost use Rattle.block_places.specs.code.Place.{points_from, coordinate_length, point_length};
-ghost use Rattle.block_places.specs.code.Places.{points_end, points_at, PointsIn};
-ghost use Rattle.points.specs.declared.Walked.TheVariants as W;
 ghost use Rattle.cell.specs.Limits.{max_points};
-ghost use Rattle.points.specs.code.Integers.{integer_at, integers_from, InUnit, Passing, PutsPassing};
-ghost use Rattle.points.specs.code.Walk.{rest_from, through, walked, with_length};
+ghost use Rattle.points.specs.code.Integers.{count_of, points_in, integer_at, integers_at, integers_from, InUnit, Passing, PutsPassing};
+ghost use Rattle.points.specs.code.Walk.{through, walked, with_length};
 
-use block_places::{COORDINATE, POINT, PointsPlaces};
-use conversion::{CoordinateConverter, Entry, POINT_FIELD};
-use coordinate::{Plain, Pointed};
+use block_places::{COORDINATE, POINT};
+use conversion::{CoordinateConverter, DatabasePoint, Entry, POINT_FIELD};
+use coordinate::Pointed;
 use refusal::Refusal;
 use steps::{Measured, Written};
 
@@ -27,25 +24,10 @@ const INTEGER_VALUE: usize = 5;
 
 // The first and the last of the points, with the entry after all.
 #[derive(Clone, Copy)]
-pub enum Walked {
-    Refused {
-        refusal: Refusal,
-    },
-    Through {
-        x0: i32,
-        y0: i32,
-        x1: i32,
-        y1: i32,
-        entry: Entry,
-    },
-}
-
-// The first point, with the entry after it.
-#[derive(Clone, Copy)]
-struct First {
-    x: i32,
-    y: i32,
-    entry: Entry,
+pub struct Walked {
+    pub first: DatabasePoint,
+    pub last: DatabasePoint,
+    pub entry: Entry,
 }
 
 // ---- integers in the database unit, which pass unchanged: a clean layout's lists have nothing else, so that the points in front that pass are told apart from the rest
@@ -55,43 +37,29 @@ fn in_unit(b: &[u8], at: usize, bits: u64) -> bool
     requires { at + coordinate_length ≤ length b.now }
     ensures { result ≡ true → InUnit bits b.now at }
 {
-    if big_endian::u8_at(b, at) == block_places::INTEGER {
-        return big_endian::u64_at(b, at + block_places::UNIT) == bits;
-    }
-    false
+    big_endian::u8_at(b, at) == block_places::INTEGER
+        && big_endian::u64_at(b, at + block_places::UNIT) == bits
 }
 
-// Whether both coordinates of the point at a place are.
-fn point_in_unit(b: &[u8], at: usize, bits: u64) -> bool
-    requires { at + point_length ≤ length b.now }
-    ensures { result ≡ true → InUnit bits b.now at × InUnit bits b.now (at + coordinate_length) }
+// Whether both coordinates of the point that has these bytes are.
+fn point_in_unit(bytes: &[u8], bits: u64) -> bool
+    requires { length bytes.now ≡ point_length }
+    ensures { result ≡ true → InUnit bits bytes.now 0 × InUnit bits bytes.now coordinate_length }
 {
-    if !in_unit(b, at, bits) {
-        return false;
-    }
-    in_unit(b, at + COORDINATE, bits)
+    in_unit(bytes, 0, bits) && in_unit(bytes, COORDINATE, bits)
 }
 
-// How many points in front pass for sure: a unit with the bits of d equals it, unless it is a NaN. The next one may still pass.
-fn count_passing(d: f64, b: &[u8], points: PointsPlaces) -> usize
-    requires { PointsIn b.now points }
-    ensures { Passing d b.now points result }
+// Of a list's bytes, how many points in front pass for sure: a unit with the bits of d equals it, unless it is a NaN. The next one may still pass.
+fn count_passing(d: f64, list: &[u8]) -> usize
+    ensures { Passing d list.now result }
 {
-    if d != d {
+    if d.is_nan() {
         return 0;
     }
     let bits = f64::to_bits(d);
-    let n = points.count;
-    let mut i: usize = 0;
-    let mut at = points.place;
-    while i < n {
-        if !point_in_unit(b, at, bits) {
-            return i;
-        }
-        at = at + POINT;
-        i = i + 1;
-    }
-    i
+    list.chunks_exact(POINT)
+        .take_while(|bytes| point_in_unit(bytes, bits))
+        .count()
 }
 
 // The integer of the coordinate at a place.
@@ -102,71 +70,57 @@ fn integer_at(b: &[u8], at: usize) -> i32
     big_endian::as_i32(big_endian::u32_at(b, at + INTEGER_VALUE))
 }
 
-// The ends of the points, with the entry as it is.
-fn integer_ends(b: &[u8], points: PointsPlaces, entry: Entry) -> Walked
-    requires points_in { PointsIn b.now points }
-    requires le_count { 1 ≤ points.count }
-    ensures { result ≡ walked (integers_from points.count b.now points.place) entry }
+// The integers of the point at a place.
+fn integer_point(b: &[u8], at: usize) -> DatabasePoint
+    requires { at + point_length ≤ length b.now }
+    ensures { grid_point_of result ≡ integers_at b.now at }
 {
-    let first = points.place;
-    let last = first + POINT * (points.count - 1);
-    Walked::Through {
-        x0: integer_at(b, first),
-        y0: integer_at(b, first + COORDINATE),
-        x1: integer_at(b, last),
-        y1: integer_at(b, last + COORDINATE),
+    DatabasePoint {
+        x: integer_at(b, at),
+        y: integer_at(b, at + COORDINATE),
+    }
+}
+
+// The ends of the points, with the entry as it is.
+fn integer_ends(list: &[u8], entry: Entry) -> Walked
+    requires some { point_length ≤ length list.now }
+    requires whole { length list.now ≡ point_length * count_of list.now }
+    ensures { Ok result ≡ walked (integers_from (count_of list.now) list.now 0) entry }
+{
+    Walked {
+        first: integer_point(list, 0),
+        last: integer_point(list, list.len() - POINT),
         entry,
     }
 }
 
 // The same points, with their bytes, eight each, from a place of the output on.
-fn put_passing(d: f64, b: &[u8], points: PointsPlaces, out: &mut [u8], start: usize) -> usize
-    requires points_in { PointsIn b.now points }
-    requires count_in_bounds { start + xy_point_length * points.count ≤ length out.old }
-    ensures { PutsPassing d b.now points start out.old out.new result }
+fn put_passing(d: f64, list: &[u8], out: &mut [u8], start: usize) -> usize
+    requires { start + xy_point_length * count_of list.now ≤ length out.old }
+    ensures { PutsPassing d list.now start out.old out.new result }
 {
-    if d != d {
+    if d.is_nan() {
         return 0;
     }
     let bits = f64::to_bits(d);
-    let from = points.place;
-    let n = points.count;
-    let mut i: usize = 0;
-    let mut at = from;
     let mut to = start;
-    while i < n {
-        if !point_in_unit(b, at, bits) {
+    for (i, bytes) in list.chunks_exact(POINT).enumerate() {
+        if !point_in_unit(bytes, bits) {
             return i;
         }
-        to = coordinate::put_point(out, to, integer_at(b, at), integer_at(b, at + COORDINATE));
-        at = at + POINT;
-        i = i + 1;
+        to = coordinate::put_point(out, to, integer_point(bytes, 0));
     }
-    i
+    list.len() / POINT
 }
 
 // ---- the rest, after the points in front that pass
 
 // What a list has after its first k points.
-fn rest_of(points: PointsPlaces, k: usize) -> PointsPlaces
-    requires k_le_count { k ≤ points.count }
-    requires fits { Fits w64 (points_end points) }
-    ensures { (result.count + k ≡ points.count) × (result.place ≡ points.place + point_length * k) }
+fn rest_of(list: &[u8], k: usize) -> &[u8]
+    requires { point_length * k ≤ length list.now }
+    ensures { result.now ≡ drop (point_length * k) list.now }
 {
-    PointsPlaces {
-        count: points.count - k,
-        place: points.place + POINT * k,
-    }
-}
-
-// After how many points the rest begins where they are measured: the first is converted in any case, since it is one of the ends.
-fn rest_from(passing: usize) -> usize
-    ensures { result ≡ rest_from passing }
-{
-    if passing == 0 {
-        return 1;
-    }
-    passing
+    &list[POINT * k..]
 }
 
 // ---- measured
@@ -174,51 +128,35 @@ fn rest_from(passing: usize) -> usize
 // The rest: `from` is its first point's place in the whole list, whose first point is given.
 fn measure_rest(
     converter: CoordinateConverter,
-    b: &[u8],
-    rest: PointsPlaces,
+    rest: &[u8],
     from: usize,
-    first: First,
-) -> Walked
-    requires points_in { PointsIn b.now rest }
-    requires count_bound { from + rest.count ≤ max_points }
-    requires spare { Spare (2 * rest.count) first.entry }
-    ensures { result ≡ run W.Refused first.entry (write_points converter.policy converter.d from (points_at b.now rest)) (through (record { x = first.x; y = first.y }) (record { x = first.x; y = first.y })) }
+    first: Pointed,
+) -> Result<Walked, Refusal>
+    requires count_bound { from + count_of rest.now ≤ max_points }
+    requires spare { Spare (2 * count_of rest.now) first.entry }
+    ensures { result ≡ run Err first.entry (write_points converter.policy converter.d from (points_in rest.now)) (through (grid_point_of first.point) (grid_point_of first.point)) }
 {
-    let last = from + rest.count;
-    let mut i = from;
-    let mut at = rest.place;
-    let mut x1 = first.x;
-    let mut y1 = first.y;
-    let mut e = first.entry;
-    while i < last {
-        let cx = coordinate::convert_at(converter, b, at);
-        let cy = coordinate::convert_at(converter, b, at + COORDINATE);
-        match coordinate::plain_point(cx, cy) {
-            Plain::At { x, y } => {
-                x1 = x;
-                y1 = y;
-            }
-            Plain::No => match coordinate::record_point(cx, cy, POINT_FIELD, i as u16, e) {
-                Pointed::Refused { refusal } => {
-                    return Walked::Refused { refusal };
-                }
-                Pointed::At { x, y, entry: more } => {
-                    x1 = x;
-                    y1 = y;
-                    e = more;
-                }
-            },
+    let mut at = 0;
+    let mut last = first.point;
+    let mut entry = first.entry;
+    // By the places in the whole list: a count from zero, with a sum for each deviation, takes longer.
+    for i in from..from + rest.len() / POINT {
+        let cx = coordinate::convert_at(converter, rest, at);
+        let cy = coordinate::convert_at(converter, rest, at + COORDINATE);
+        if let Some(point) = coordinate::plain_point(cx, cy) {
+            last = point;
+        } else {
+            let pointed = coordinate::record_point(cx, cy, POINT_FIELD, i as u16, entry)?;
+            last = pointed.point;
+            entry = pointed.entry;
         }
-        at = at + POINT;
-        i = i + 1;
+        at += POINT;
     }
-    Walked::Through {
-        x0: first.x,
-        y0: first.y,
-        x1,
-        y1,
-        entry: e,
-    }
+    Ok(Walked {
+        first: first.point,
+        last,
+        entry,
+    })
 }
 
 // All points: the first refusal, or the ends and the entry. Place and number come apart, so that they stay in registers.
@@ -228,42 +166,30 @@ pub fn measure_points(
     place: usize,
     count: usize,
     entry: Entry,
-) -> Walked
+) -> Result<Walked, Refusal>
     requires count_in_bounds { place + point_length * count ≤ length b.now }
     requires le_count { 1 ≤ count }
     requires count_le_max_points { count ≤ max_points }
     requires spare { Spare (2 * count) entry }
-    ensures { result ≡ run W.Refused entry (write_points converter.policy converter.d 0 (points_from count b.now place)) walked }
+    ensures { result ≡ run Err entry (write_points converter.policy converter.d 0 (points_from count b.now place)) walked }
 {
-    let points = PointsPlaces { count, place };
-    let passing = count_passing(converter.d, b, points);
+    let list = &b[place..place + POINT * count];
+    let passing = count_passing(converter.d, list);
     if passing == count {
-        return integer_ends(b, points, entry);
+        return Ok(integer_ends(list, entry));
     }
-    match coordinate::convert_point(converter, b, place, POINT_FIELD, 0, entry) {
-        Pointed::Refused { refusal } => Walked::Refused { refusal },
-        Pointed::At { x, y, entry: e } => {
-            let first = First { x, y, entry: e };
-            let from = rest_from(passing);
-            measure_rest(converter, b, rest_of(points, from), from, first)
-        }
-    }
+    let first = coordinate::convert_point(converter, list, 0, POINT_FIELD, 0, entry)?;
+    // The first is converted in any case, since it is one of the ends.
+    let from = passing.max(1);
+    measure_rest(converter, rest_of(list, from), from, first)
 }
 
 // The same, where the records take `length` bytes, as the number of points tells.
-pub fn with_length(walked: Walked, length: usize) -> Measured
+pub fn with_length(walked: Result<Walked, Refusal>, length: usize) -> Result<Measured, Refusal>
     ensures { result ≡ with_length length walked }
 {
-    match walked {
-        Walked::Refused { refusal } => Measured::Refused { refusal },
-        Walked::Through {
-            x0: _,
-            y0: _,
-            x1: _,
-            y1: _,
-            entry,
-        } => Measured::Through { length, entry },
-    }
+    let entry = walked?.entry;
+    Ok(Measured { length, entry })
 }
 
 // ---- written
@@ -271,46 +197,37 @@ pub fn with_length(walked: Walked, length: usize) -> Measured
 // The rest, converted, after what is written already: `from` is its first point's place in the whole list.
 fn put_rest(
     converter: CoordinateConverter,
-    b: &[u8],
-    rest: PointsPlaces,
+    rest: &[u8],
     from: usize,
     out: &mut [u8],
     front: Written,
 ) -> Written
-    requires points_in { PointsIn b.now rest }
-    requires count_bound { from + rest.count ≤ max_points }
-    requires succeeds { Succeeds (write_points converter.policy converter.d from (points_at b.now rest)) }
-    requires count_in_bounds { front.to + xy_point_length * rest.count ≤ length out.old }
-    requires spare { Spare (2 * rest.count) front.entry }
-    ensures { Writes points_bytes front.entry (write_points converter.policy converter.d from (points_at b.now rest)) front.to out.old out.new result }
+    requires count_bound { from + count_of rest.now ≤ max_points }
+    requires succeeds { Succeeds (write_points converter.policy converter.d from (points_in rest.now)) }
+    requires count_in_bounds { front.to + xy_point_length * count_of rest.now ≤ length out.old }
+    requires spare { Spare (2 * count_of rest.now) front.entry }
+    ensures { Writes points_bytes front.entry (write_points converter.policy converter.d from (points_in rest.now)) front.to out.old out.new result }
 {
-    let last = from + rest.count;
-    let mut i = from;
-    let mut at = rest.place;
+    let mut at = 0;
     let mut to = front.to;
-    let mut e = front.entry;
-    while i < last {
-        let cx = coordinate::convert_at(converter, b, at);
-        let cy = coordinate::convert_at(converter, b, at + COORDINATE);
-        match coordinate::plain_point(cx, cy) {
-            Plain::At { x, y } => {
-                to = coordinate::put_point(out, to, x, y);
-            }
-            Plain::No => match coordinate::record_point(cx, cy, POINT_FIELD, i as u16, e) {
-                Pointed::Refused { refusal: _ } => {
-                    // Never: no point is refused.
-                    return Written { to, entry: e };
-                }
-                Pointed::At { x, y, entry: more } => {
-                    to = coordinate::put_point(out, to, x, y);
-                    e = more;
-                }
-            },
-        }
-        at = at + POINT;
-        i = i + 1;
+    let mut entry = front.entry;
+    // By the places in the whole list, as in `measure_rest`.
+    for i in from..from + rest.len() / POINT {
+        let cx = coordinate::convert_at(converter, rest, at);
+        let cy = coordinate::convert_at(converter, rest, at + COORDINATE);
+        let point = if let Some(plain) = coordinate::plain_point(cx, cy) {
+            plain
+        } else if let Ok(pointed) = coordinate::record_point(cx, cy, POINT_FIELD, i as u16, entry) {
+            entry = pointed.entry;
+            pointed.point
+        } else {
+            // Never: no point is refused.
+            return Written { to, entry };
+        };
+        to = coordinate::put_point(out, to, point);
+        at += POINT;
     }
-    Written { to, entry: e }
+    Written { to, entry }
 }
 
 // All points, eight bytes each, after what is written already, and the entry with them: one walk, in which those that pass are copied and the others converted, each once.
@@ -329,11 +246,11 @@ pub fn put_points(
     requires spare { Spare (2 * count) front.entry }
     ensures { Writes points_bytes front.entry (write_points converter.policy converter.d 0 (points_from count b.now place)) front.to out.old out.new result }
 {
-    let points = PointsPlaces { count, place };
+    let list = &b[place..place + POINT * count];
     let start = front.to;
     let entry = front.entry;
-    let passing = put_passing(converter.d, b, points, out, start);
-    let rest = rest_of(points, passing);
+    let passing = put_passing(converter.d, list, out, start);
+    let rest = rest_of(list, passing);
     let to = start + records::XY_POINT * passing;
-    put_rest(converter, b, rest, passing, out, Written { to, entry })
+    put_rest(converter, rest, passing, out, Written { to, entry })
 }

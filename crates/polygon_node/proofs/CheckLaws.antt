@@ -4,6 +4,7 @@ use mathlib.Core.List.{List}
 use Prim.Native.Nat.{ℕ, ◌≤◌}
 use lib.ListN.{length}
 use lib.Ieee.{Float}
+use Rattle.std.specs.Prelude.{Err}
 use Rattle.refusal.specs.declared.Refusal.{Refusal}
 use Rattle.conversion.specs.declared.Entry.{Entry}
 use Rattle.conversion.specs.declared.GdsRoundingPolicy.{GdsRoundingPolicy}
@@ -20,7 +21,6 @@ use Rattle.steps.specs.code.Steps.{Succeeds}
 use Rattle.steps.proofs.StepLaws.{yields}
 use Rattle.block_places.specs.declared.ShapePlaces.{ShapePlaces}
 use Rattle.block_places.specs.code.Places.{points_at, shape_at}
-use Rattle.points.specs.declared.Walked.TheVariants as W
 use Rattle.points.specs.code.Walk.{walked}
 use Rattle.points.proofs.WalkLaws.{length_from}
 use Rattle.polygon_node.specs.code.Shape.{shape_ends, after_checks}
@@ -61,12 +61,12 @@ module _ (policy : GdsRoundingPolicy) (d : Float) (least most : ℕ) (b : List �
   unfolding shape_at
   counted_is = ap (λ (n : ℕ). shape_checks least n most s.layer s.datatype) (sym (length_from s.points.count b s.points.place))
 
-  pub shape-stops : (x : Refusal) → refused x ≡ counted → W.Refused x ≡ run W.Refused e (write_shape policy d least most (shape_at b s)) shape_ends
+  pub shape-stops : (x : Refusal) → refused x ≡ counted → Err x ≡ run Err e (write_shape policy d least most (shape_at b s)) shape_ends
   unfolding run
-  shape-stops x h = ap (λ (m : Made D.Shape). run W.Refused e m shape_ends) (shape-refused policy d least most (shape_at b s) x (h ∙ counted_is))
+  shape-stops x h = ap (λ (m : Made D.Shape). run Err e m shape_ends) (shape-refused policy d least most (shape_at b s) x (h ∙ counted_is))
 
-  pub shape-goes-on : pure tt ≡ counted → run W.Refused e (write_points policy d 0 (points_at b s.points)) walked ≡ run W.Refused e (write_shape policy d least most (shape_at b s)) shape_ends
+  pub shape-goes-on : pure tt ≡ counted → run Err e (write_points policy d 0 (points_at b s.points)) walked ≡ run Err e (write_shape policy d least most (shape_at b s)) shape_ends
   unfolding after_checks shape_at
   shape-goes-on h =
-      sym (run-map W.Refused e (write_points policy d 0 (points_at b s.points)) (λ ps. record { layer = s.layer; datatype = s.datatype; points = ps }) shape_ends)
-      ∙ ap (λ (m : Made D.Shape). run W.Refused e m shape_ends) (shape-passed policy d least most (shape_at b s) (h ∙ counted_is))
+      sym (run-map Err e (write_points policy d 0 (points_at b s.points)) (λ ps. record { layer = s.layer; datatype = s.datatype; points = ps }) shape_ends)
+      ∙ ap (λ (m : Made D.Shape). run Err e m shape_ends) (shape-passed policy d least most (shape_at b s) (h ∙ counted_is))

@@ -1,80 +1,79 @@
 -- A polygon's ends: the first point is the last where the code finds it so; and a polygon or a node that succeeds is its points. Assumes nothing.
 use mathlib.Core.Path.{◌≡◌, refl, sym, ap, ap₂, ◌∙◌, subst}
-use mathlib.Core.Bool.{Bool, true, false, cond}
+use mathlib.Core.Bool.{Bool, true, false, true≢false, cond, not, ◌&&◌}
 use mathlib.Core.List.{List, [], ◌∷◌, append-nil}
-use Prim.Native.Nat.{ℕ, ◌+◌, ◌*◌, ◌≤◌}
+use Prim.Native.Nat.{ℕ, ◌≤◌}
 use native.Mathlib.Omega.{arith}
+use lib.Dec.{eqb}
 use lib.ListN.{length}
 use lib.IntN.{ℤ, pos, negsuc}
 use lib.Ieee.{Float}
 use lib.Ieee.Bits.{is_true}
-use mir.Syntax.{w32}
-use mir.Val.{SFits, to_z, of_z}
-use mir.ValLaws.{to_z-of_z}
-use borrow.Author.Tests.{eq-eqb, ne_eqb}
 use Rattle.binary64.specs.Value.{same_int}
+use Rattle.std.proofs.Common.{int_eq}
+use Rattle.std.specs.Bool.{Decides}
+use Rattle.std.proofs.lemmas.Bool.Decides.{same_from_decides, Decides-like, Decides-int_eq, Decides-eqb}
+use Rattle.std.specs.Prelude.{Result, Ok, Err}
+use Rattle.refusal.specs.declared.Refusal.{Refusal}
 use Rattle.refusal.specs.declared.Refusal.TheVariants as R
 use Rattle.units.specs.Point.{Point}
+use Rattle.conversion.specs.declared.DatabasePoint.{DatabasePoint}
 use Rattle.conversion.specs.declared.Deviation.{Deviation}
 use Rattle.conversion.specs.declared.Entry.{Entry}
 use Rattle.conversion.specs.declared.GdsRoundingPolicy.{GdsRoundingPolicy}
 use Rattle.conversion.specs.Made.{Made, refused, made, pure, after, need, ◌>>=◌, ◌>>◌}
-use Rattle.conversion.specs.code.Fold.{noted_all, run, Spare}
+use Rattle.conversion.specs.code.Answer.{grid_point_of}
+use Rattle.conversion.specs.code.Fold.{noted_all, run}
 use Rattle.conversion.specs.Points.{write_points}
 use Rattle.conversion.proofs.MadeLaws.{steps, checked}
 use Rattle.stream.specs.Structure as D
 use Rattle.stream.specs.Record.{BOUNDARY, DATATYPE, NODE, NODETYPE}
-use Rattle.stream.specs.Records.{points_bytes}
 use Rattle.cell.specs.Limits.{min_polygon_points, min_node_points, max_points, max_node_points}
-use Rattle.cell.specs.Write.{closed, write_shape, write_polygon, write_node}
+use Rattle.cell.specs.Write.{same_point, closed, write_shape, write_polygon, write_node}
 use Rattle.steps.specs.declared.Measured.{Measured}
-use Rattle.steps.specs.declared.Measured.TheVariants as M
-use Rattle.steps.specs.declared.Written.{Written}
-use Rattle.steps.specs.code.Steps.{max_deviations, sizing, Measures, Succeeds, Writes}
-use Rattle.steps.proofs.StepLaws.{yields, succeeds, same_step}
-use Rattle.records.specs.code.Bytes.{xy_point_length, Placed}
+use Rattle.steps.specs.code.Steps.{through as measured, sizing, Measures, Succeeds}
+use Rattle.steps.proofs.StepLaws.{yields, succeeds}
 use Rattle.block_places.specs.declared.ShapePlaces.{ShapePlaces}
-use Rattle.block_places.specs.code.Places.{points_at, shape_at, PointsIn, ShapeIn}
+use Rattle.block_places.specs.code.Places.{points_at, shape_at}
 use Rattle.points.specs.declared.Walked.{Walked}
-use Rattle.points.specs.declared.Walked.TheVariants as W
 use Rattle.points.specs.code.Walk.{through, walked, with_length}
 use Rattle.points.proofs.EndsLaws.{ends-length, ends-measured}
 use Rattle.points.proofs.WalkLaws.{length_from}
-use Rattle.polygon_node.specs.code.Shape.{shape_bytes, polygon_bytes, node_bytes, shape_head_length, shape_length, shape_head, shape_ends, closed_ends, after_checks}
+use Rattle.polygon_node.specs.code.Shape.{polygon_bytes, node_bytes, shape_length, shape_ends, after_checks}
 use Rattle.polygon_node.proofs.CheckLaws.{shape-past, shape-counted}
-use Rattle.polygon_node.proofs.ShapeLaws.{shape-length, shape-put}
-
--- ---- whole numbers, which the code compares by their bits
-
-pub same_int_lem : (a b : ℤ) → SFits w32 a → SFits w32 b → of_z w32 a ≡ of_z w32 b → same_int a b ≡ true
-same_int_lem a b f g e = subst (λ (z : ℤ). same_int a z ≡ true) (sym (to_z-of_z w32 a f) ∙ ap (to_z w32) e ∙ to_z-of_z w32 b g) (itself a)
-  where
-    itself : (a : ℤ) → same_int a a ≡ true
-    itself (pos n) = eq-eqb n n refl
-    itself (negsuc n) = eq-eqb n n refl
-
-pub other-int : (a b : ℤ) → (of_z w32 a ≡ of_z w32 b → ⊥) → same_int a b ≡ false
-other-int a b h = go a b (λ e. h (ap (of_z w32) e))
-  where
-    go : (a b : ℤ) → (a ≡ b → ⊥) → same_int a b ≡ false
-    go (pos m) (pos n) h = ne_eqb m n (λ e. h (ap pos e))
-    go (pos m) (negsuc n) h = refl
-    go (negsuc m) (pos n) h = refl
-    go (negsuc m) (negsuc n) h = ne_eqb m n (λ e. h (ap negsuc e))
+use Rattle.polygon_node.proofs.ShapeLaws.{shape-length}
 
 -- ---- a polygon is a shape whose ends meet
 
-ends-closed : (ps : List (Point ℤ)) (e : Entry) → closed_ends (walked ps e) ≡ closed ps
+-- the code's test of two points, and the definitions'
+int-same : (a b : ℤ) → int_eq a b ≡ same_int a b
+int-same a b = same_from_decides (int_eq a b) (same_int a b) (Decides-int_eq a b) (decides a b)
+  where
+    decides : (a b : ℤ) → Decides (same_int a b) (a ≡ b)
+    decides (pos m) (pos n) = Decides-like (eqb m n) (ap pos) (λ e. cc) (Decides-eqb m n)
+    decides (pos m) (negsuc n) = (λ e. absurd (true≢false (sym e)), λ e. cc)
+    decides (negsuc m) (pos n) = (λ e. absurd (true≢false (sym e)), λ e. cc)
+    decides (negsuc m) (negsuc n) = Decides-like (eqb m n) (ap negsuc) (λ e. cc) (Decides-eqb m n)
+
+points-same : (p q : DatabasePoint) → int_eq p.x q.x && int_eq p.y q.y ≡ same_point (grid_point_of p) (grid_point_of q)
+points-same p q = ap₂ ◌&&◌ (int-same p.x q.x) (int-same p.y q.y)
+
+-- they meet, where no refusal is
+abbrev meet : Result Walked Refusal → Bool
+meet (Err x) = true
+meet (Ok w) = same_point (grid_point_of w.first) (grid_point_of w.last)
+
+ends-closed : (ps : List (Point ℤ)) (e : Entry) → meet (walked ps e) ≡ closed ps
 unfolding walked through closed
 ends-closed [] e = refl
 ends-closed (p ∷ ps) e = refl
 
 -- what measuring answers of a shape's ends r, where its records take n bytes
 module _ (e : Entry) (n : ℕ) where
-  abbrev answer : Walked → Measured
-  answer r = cond (closed_ends r) (with_length n r) (M.Refused R.NotClosed)
+  abbrev answer : Result Walked Refusal → Result Measured Refusal
+  answer r = cond (meet r) (with_length n r) (Err R.NotClosed)
 
-  ends-answer : (m : Made D.Shape) → ((w : D.Shape) (vs : List Deviation) → m ≡ made w vs → n ≡ length (polygon_bytes w)) → (r : Walked) → r ≡ run W.Refused e m shape_ends
+  ends-answer : (m : Made D.Shape) → ((w : D.Shape) (vs : List Deviation) → m ≡ made w vs → n ≡ length (polygon_bytes w)) → (r : Result Walked Refusal) → r ≡ run Err e m shape_ends
       → Measures polygon_bytes e (m >>= λ w. need (closed w.points) R.NotClosed >> pure w) (answer r)
   unfolding run sizing need ◌>>=◌ ◌>>◌
   ends-answer (refused x) l r h = ap answer h
@@ -83,43 +82,51 @@ module _ (e : Entry) (n : ℕ) where
       last : Entry
       last = noted_all e vs
 
-      found : Bool → Measured
-      found t = run M.Refused e (after vs (need t R.NotClosed >> pure w)) (sizing polygon_bytes)
+      found : Bool → Result Measured Refusal
+      found t = run Err e (after vs (need t R.NotClosed >> pure w)) (sizing polygon_bytes)
 
-      met : (t : Bool) → closed w.points ≡ t → answer (shape_ends w last) ≡ cond t (M.Through n last) (M.Refused R.NotClosed)
-      met t c = ap₂ (λ (t : Bool) (x : Measured). cond t x (M.Refused R.NotClosed)) (ends-closed w.points last ∙ c) (ends-length n w.points last)
+      met : (t : Bool) → closed w.points ≡ t → answer (shape_ends w last) ≡ cond t (measured n last) (Err R.NotClosed)
+      met t c = ap₂ (λ (t : Bool) (x : Result Measured Refusal). cond t x (Err R.NotClosed)) (ends-closed w.points last ∙ c) (ends-length n w.points last)
 
       go : (t : Bool) → closed w.points ≡ t → answer (shape_ends w last) ≡ found (closed w.points)
-      go true c = met true c ∙ ap₂ (λ (k : ℕ) (us : List Deviation). M.Through k (noted_all e us)) (l w vs refl) (sym (append-nil vs)) ∙ ap found (sym c)
+      go true c = met true c ∙ ap₂ (λ (k : ℕ) (us : List Deviation). measured k (noted_all e us)) (l w vs refl) (sym (append-nil vs)) ∙ ap found (sym c)
       go false c = met false c ∙ ap found (sym c)
 
 -- the shape at s, whose ends are r
-module _ (policy : GdsRoundingPolicy) (d : Float) (b : List ℕ) (s : ShapePlaces) (e : Entry) (r : Walked) where
+module _ (policy : GdsRoundingPolicy) (d : Float) (b : List ℕ) (s : ShapePlaces) (e : Entry) where
   abbrev size : ℕ
   size = shape_length s.points.count
 
-  abbrev Ends : ℕ → ℕ → Type 0
-  Ends least most = r ≡ run W.Refused e (write_shape policy d least most (shape_at b s)) shape_ends
+  abbrev Ends : ℕ → ℕ → Result Walked Refusal → Type 0
+  Ends least most r = r ≡ run Err e (write_shape policy d least most (shape_at b s)) shape_ends
 
-  module _ (h : Ends min_polygon_points max_points) where
-    abbrev Polygon : Measured → Type 0
-    Polygon m = Measures polygon_bytes e (write_polygon policy d (shape_at b s)) m
+  abbrev Polygon : Result Measured Refusal → Type 0
+  Polygon m = Measures polygon_bytes e (write_polygon policy d (shape_at b s)) m
 
-    answered : (t : Bool) → t ≡ closed_ends r → Polygon (cond t (with_length size r) (M.Refused R.NotClosed))
-    unfolding write_polygon
-    answered t c =
-        ap (λ (t : Bool). cond t (with_length size r) (M.Refused R.NotClosed)) c
-        ∙ ends-answer e size (write_shape policy d min_polygon_points max_points (shape_at b s)) (λ w vs g. shape-length policy d min_polygon_points max_points b s w vs BOUNDARY DATATYPE g) r h
+  answered : (r : Result Walked Refusal) → Ends min_polygon_points max_points r → Polygon (answer e size r)
+  unfolding write_polygon
+  answered r h = ends-answer e size (write_shape policy d min_polygon_points max_points (shape_at b s)) (λ w vs g. shape-length policy d min_polygon_points max_points b s w vs BOUNDARY DATATYPE g) r h
 
-    pub polygon-measured : true ≡ closed_ends r → Polygon (with_length size r)
-    polygon-measured c = answered true c
+  pub polygon-refused : (x : Refusal) → Ends min_polygon_points max_points (Err x) → Polygon (Err x)
+  polygon-refused x h = answered (Err x) h
 
-    pub polygon-open : false ≡ closed_ends r → Polygon (M.Refused R.NotClosed)
-    polygon-open c = answered false c
+  module _ (w : Walked) (h : Ends min_polygon_points max_points (Ok w)) where
+    ends-met : (t : Bool) → t ≡ not (int_eq w.first.x w.last.x && int_eq w.first.y w.last.y) → Polygon (cond t (Err R.NotClosed) (measured size w.entry))
+    ends-met t c = rw (c, points-same w.first w.last) (go (same_point (grid_point_of w.first) (grid_point_of w.last)) (answered (Ok w) h))
+      where
+        go : (t : Bool) → Polygon (cond t (with_length size (Ok w)) (Err R.NotClosed)) → Polygon (cond (not t) (Err R.NotClosed) (measured size w.entry))
+        go true p = p
+        go false p = p
 
-  pub node-measured : Ends min_node_points max_node_points → Measures node_bytes e (write_node policy d (shape_at b s)) (with_length size r)
+    pub polygon-open : true ≡ not (int_eq w.first.x w.last.x && int_eq w.first.y w.last.y) → Polygon (Err R.NotClosed)
+    polygon-open c = ends-met true c
+
+    pub polygon-measured : false ≡ not (int_eq w.first.x w.last.x && int_eq w.first.y w.last.y) → Polygon (measured size w.entry)
+    polygon-measured c = ends-met false c
+
+  pub node-measured : (r : Result Walked Refusal) → Ends min_node_points max_node_points r → Measures node_bytes e (write_node policy d (shape_at b s)) (with_length size r)
   unfolding write_node
-  node-measured h =
+  node-measured r h =
       ends-measured (λ (w : D.Shape). w.points) node_bytes e size (write_shape policy d min_node_points max_node_points (shape_at b s))
       (λ w vs g. shape-length policy d min_node_points max_node_points b s w vs NODE NODETYPE g) r h
 
@@ -162,20 +169,3 @@ module _ (policy : GdsRoundingPolicy) (d : Float) (b : List ℕ) (s : ShapePlace
   pub node-ready : Succeeds (write_node policy d (shape_at b s)) → Ready policy d b s (write_node policy d (shape_at b s))
   unfolding write_node
   node-ready g = shape-ready min_node_points max_node_points (write_node policy d (shape_at b s)) (omega arith) refl g
-
--- its points, after the head
-module _ (code type_code : ℕ) {policy : GdsRoundingPolicy} {d : Float} {b : List ℕ} {s : ShapePlaces} {m : Made D.Shape} (r : Ready policy d b s m) {before cur : List ℕ} {to : ℕ}
-    (h : Placed (shape_head code type_code s.layer s.datatype s.points.count) shape_head_length before cur 0 to) (e : Entry) where
-  -- they may be written
-  pub points-follow : ShapeIn b s → shape_length s.points.count ≤ length before → Spare max_deviations e
-      → PointsIn b s.points
-      × ((s.points.count ≤ max_points) × (Succeeds (write_points policy d 0 (points_at b s.points)) × ((to + xy_point_length * s.points.count ≤ length cur) × Spare (2 * s.points.count) e)))
-  points-follow i room spare =
-      let end = h.end in
-      let long = h.long in
-      let counted = r.counted in
-      (i.points-in, (counted, (r.points, (omega arith, omega arith))))
-
-  -- and are the shape then
-  pub shape-written : {last : List ℕ} {w : Written} → Writes points_bytes e (write_points policy d 0 (points_at b s.points)) to cur last w → Writes (shape_bytes code type_code) e m 0 before last w
-  shape-written p = same_step (sym r.is) (shape-put policy d b s e code type_code h p)

@@ -1,8 +1,9 @@
 // A reference (`write_reference_cell` of write/mod.rs), from its places in the block: its checks and conversions, and then its records.
 #![tactic(auto)]
 
-ghost use Rattle.std.specs.Prelude.{◌≡◌, [], ◌∷◌, ◌+◌, ◌≤◌, length};
+ghost use Rattle.std.specs.Prelude.{◌≡◌, [], ◌∷◌, ◌+◌, ◌≤◌, length, Err};
 ghost use Rattle.big_endian.specs.Big.{number_at};
+ghost use Rattle.conversion.specs.code.Answer.{grid_point_of};
 ghost use Rattle.conversion.specs.code.Fold.{Spare, run};
 ghost use Rattle.stream.specs.Records.{xy_record};
 ghost use Rattle.cell.specs.Write.{in_unit, write_reference};
@@ -10,19 +11,16 @@ ghost use Rattle.block_places.specs.code.Place.{string_end, point_length};
 ghost use Rattle.block_places.specs.code.Places.{reference_at, ReferenceIn};
 ghost use Rattle.records.specs.code.Bytes.{Placed, Recorded};
 ghost use Rattle.transform.specs.code.Strans.{said_of, strans_length};
-ghost use Rattle.array.specs.declared.Array.TheVariants as Answer;
 ghost use Rattle.array.specs.code.Corners.{array_deviations, corners_for, steps_of, cornered};
 ghost use Rattle.steps.specs.code.Steps.{max_deviations, Measures, Succeeds, Writes};
 ghost use Rattle.reference.specs.code.Reference.{reference_bytes, size_of, single_rest, corners_length, array_rest, max_front_length, is_single, reference_length, lacking, Bounded, Checks, Encodes, after_transform, after_checks, turned_array, sref_of, aref_of, GivesReference};
 
 use array::{Array, Corners};
 use block_places::ReferencePlaces;
-use conversion::{CoordinateConverter, Entry};
-use coordinate::Pointed;
+use conversion::{CoordinateConverter, DatabasePoint, Entry};
 use refusal::Refusal;
 use steps::{Measured, Written};
-use transform::{Strans, Transform};
-use validation::Check;
+use transform::Strans;
 
 // The most columns or rows.
 const MAX_COL_ROW: usize = 32767;
@@ -37,16 +35,12 @@ const ARRAY_LENGTH: usize = 36;
 // The bytes of an XY of three points.
 const CORNERS_LENGTH: u16 = 28;
 
-// A refusal; or the values of the records that the sheet does not hold as they are, with the entry after them.
+// The values of the records that the sheet does not hold as they are, with the entry after them.
 #[derive(Clone, Copy)]
-pub enum ReferenceValues {
-    Refused {
-        refusal: Refusal,
-    },
+enum ReferenceValues {
     Single {
         strans: Strans,
-        x: i32,
-        y: i32,
+        point: DatabasePoint,
         entry: Entry,
     },
     Array {
@@ -58,75 +52,56 @@ pub enum ReferenceValues {
 
 // ---- checks and conversions
 
+// Converter, block, places and entry come apart, as in each element: the type of the places is the element's own, and after each step the entry is another.
+
 // More than one column or row, without its spacing.
+#[tactic(auto, unfolding(block_places::specs::code::Place::spacing_at))]
 fn lacks_spacing(b: &[u8], n: u32, at: usize) -> bool
     requires { at + point_length ≤ length b.now }
     ensures { result ≡ lacking b.now n at }
 {
-    if n > 1 {
-        return block_places::is_absent(b, at);
-    }
-    false
+    n > 1 && block_places::is_absent(b, at)
 }
 
 // The name, the columns and rows, and the spacings of more than one of them.
-fn check_reference(b: &[u8], s: ReferencePlaces) -> Check
+fn check_reference(b: &[u8], s: ReferencePlaces) -> Result<(), Refusal>
     requires { ReferenceIn b.now s }
     ensures { Checks b.now s (reference_at b.now s) result }
 {
     if !validation::validate_structure_name(block_places::string_at(b, s.name)) {
-        return Check::Refused {
-            refusal: Refusal::Name,
-        };
+        return Err(Refusal::Name);
     }
-    if !validation::within(1, s.columns as usize, MAX_COL_ROW) {
-        return Check::Refused {
-            refusal: Refusal::ColumnsOrRows,
-        };
+    let columns = validation::within(1, s.columns as usize, MAX_COL_ROW);
+    let rows = validation::within(1, s.rows as usize, MAX_COL_ROW);
+    if !(columns && rows) {
+        return Err(Refusal::ColumnsOrRows);
     }
-    if !validation::within(1, s.rows as usize, MAX_COL_ROW) {
-        return Check::Refused {
-            refusal: Refusal::ColumnsOrRows,
-        };
+    if lacks_spacing(b, s.columns, s.column) || lacks_spacing(b, s.rows, s.row) {
+        return Err(Refusal::Spacing);
     }
-    if lacks_spacing(b, s.columns, s.column) {
-        return Check::Refused {
-            refusal: Refusal::Spacing,
-        };
-    }
-    if lacks_spacing(b, s.rows, s.row) {
-        return Check::Refused {
-            refusal: Refusal::Spacing,
-        };
-    }
-    Check::Passed
+    Ok(())
 }
 
 // Within −1 to 1, which a NaN is not.
 fn in_unit(x: f64) -> bool
     ensures { result ≡ in_unit x }
 {
-    if -1.0 <= x {
-        return x <= 1.0;
-    }
-    false
+    -1.0 <= x && x <= 1.0
 }
 
 // An array: its sine and cosine before its conversions.
-fn turned_array(converter: CoordinateConverter, b: &[u8], s: ReferencePlaces, entry: Entry) -> Array
+fn turned_array(
+    converter: CoordinateConverter,
+    b: &[u8],
+    s: ReferencePlaces,
+    entry: Entry,
+) -> Result<Array, Refusal>
     requires reference_in { ReferenceIn b.now s }
     requires spare { Spare array_deviations entry }
-    ensures { result ≡ run Answer.Refused entry (turned_array converter.policy converter.d (reference_at b.now s)) (cornered s.columns s.rows) }
+    ensures { result ≡ run Err entry (turned_array converter.policy converter.d (reference_at b.now s)) (cornered s.columns s.rows) }
 {
-    if !in_unit(s.sine) {
-        return Array::Refused {
-            refusal: Refusal::SineOrCosine,
-        };
-    }
-    if !in_unit(s.cosine) {
-        return Array::Refused {
-            refusal: Refusal::SineOrCosine,
-        };
+    if !(in_unit(s.sine) && in_unit(s.cosine)) {
+        return Err(Refusal::SineOrCosine);
     }
     array::convert_array(converter, b, s, entry)
 }
@@ -135,10 +110,7 @@ fn turned_array(converter: CoordinateConverter, b: &[u8], s: ReferencePlaces, en
 fn is_single(s: ReferencePlaces) -> bool
     ensures { result ≡ is_single s }
 {
-    if s.columns == 1 {
-        return s.rows == 1;
-    }
-    false
+    s.columns == 1 && s.rows == 1
 }
 
 // After the transform: the origin of a 1 × 1 reference, whose spacings, sine and cosine are not looked at; else the array.
@@ -148,7 +120,7 @@ fn place_reference(
     s: ReferencePlaces,
     strans: Strans,
     entry: Entry,
-) -> ReferenceValues
+) -> Result<ReferenceValues, Refusal>
     requires reference_in { ReferenceIn b.now s }
     requires bounded { Bounded b.now s }
     requires encodes { Encodes s strans }
@@ -156,32 +128,20 @@ fn place_reference(
     ensures { GivesReference b.now s entry (after_transform converter.policy converter.d (reference_at b.now s) (said_of strans)) result }
 {
     if is_single(s) {
-        match coordinate::convert_point(
-            converter,
-            b,
-            s.origin,
-            conversion::ORIGIN_FIELD,
-            0,
-            entry,
-        ) {
-            Pointed::Refused { refusal } => ReferenceValues::Refused { refusal },
-            Pointed::At { x, y, entry: e } => ReferenceValues::Single {
-                strans,
-                x,
-                y,
-                entry: e,
-            },
-        }
-    } else {
-        match turned_array(converter, b, s, entry) {
-            Array::Refused { refusal: refusal2 } => ReferenceValues::Refused { refusal: refusal2 },
-            Array::Converted { corners, entry: e2 } => ReferenceValues::Array {
-                strans,
-                corners,
-                entry: e2,
-            },
-        }
+        let field = conversion::ORIGIN_FIELD;
+        let origin = coordinate::convert_point(converter, b, s.origin, field, 0, entry)?;
+        return Ok(ReferenceValues::Single {
+            strans,
+            point: origin.point,
+            entry: origin.entry,
+        });
     }
+    let array = turned_array(converter, b, s, entry)?;
+    Ok(ReferenceValues::Array {
+        strans,
+        corners: array.corners,
+        entry: array.entry,
+    })
 }
 
 // After the checks: the transform, and then the conversions.
@@ -190,16 +150,14 @@ fn convert_reference(
     b: &[u8],
     s: ReferencePlaces,
     entry: Entry,
-) -> ReferenceValues
+) -> Result<ReferenceValues, Refusal>
     requires reference_in { ReferenceIn b.now s }
     requires bounded { Bounded b.now s }
     requires spare { Spare array_deviations entry }
     ensures { GivesReference b.now s entry (after_checks converter.policy converter.d (reference_at b.now s)) result }
 {
-    match transform::encode_transformation(s.degrees, s.magnification, s.reflection) {
-        Transform::Refused { refusal } => ReferenceValues::Refused { refusal },
-        Transform::Encoded { strans } => place_reference(converter, b, s, strans, entry),
-    }
+    let strans = transform::encode_transformation(s.degrees, s.magnification, s.reflection)?;
+    place_reference(converter, b, s, strans, entry)
 }
 
 // The checks and conversions in the order of `write_reference_cell`.
@@ -208,15 +166,13 @@ fn reference_values(
     b: &[u8],
     s: ReferencePlaces,
     entry: Entry,
-) -> ReferenceValues
+) -> Result<ReferenceValues, Refusal>
     requires reference_in { ReferenceIn b.now s }
     requires spare { Spare array_deviations entry }
     ensures { GivesReference b.now s entry (write_reference converter.policy converter.d (reference_at b.now s)) result }
 {
-    match check_reference(b, s) {
-        Check::Refused { refusal } => ReferenceValues::Refused { refusal },
-        Check::Passed => convert_reference(converter, b, s, entry),
-    }
+    check_reference(b, s)?;
+    convert_reference(converter, b, s, entry)
 }
 
 // ---- measured
@@ -228,7 +184,7 @@ fn front_length(b: &[u8], s: ReferencePlaces, strans: Strans) -> usize
     ensures upper_bound { result ≤ max_front_length }
 {
     let n = big_endian::u16_at(b, s.name) as usize;
-    FRONT_LENGTH + n + n % 2 + transform::strans_length(strans)
+    FRONT_LENGTH + n + n % 2 + strans.length()
 }
 
 // The first refusal, or the length of the records.
@@ -237,30 +193,29 @@ pub fn measure_reference(
     b: &[u8],
     reference: ReferencePlaces,
     entry: Entry,
-) -> Measured
+) -> Result<Measured, Refusal>
     requires reference_in { ReferenceIn b.now reference }
     requires spare { Spare max_deviations entry }
     ensures { Measures reference_bytes entry (write_reference converter.policy converter.d (reference_at b.now reference)) result }
 {
-    match reference_values(converter, b, reference, entry) {
-        ReferenceValues::Refused { refusal } => Measured::Refused { refusal },
+    let values = reference_values(converter, b, reference, entry)?;
+    match values {
         ReferenceValues::Single {
             strans,
-            x: _,
-            y: _,
+            point: _,
             entry: e,
-        } => Measured::Through {
+        } => Ok(Measured {
             length: front_length(b, reference, strans) + SINGLE_LENGTH,
             entry: e,
-        },
+        }),
         ReferenceValues::Array {
-            strans: strans2,
+            strans,
             corners: _,
-            entry: e2,
-        } => Measured::Through {
-            length: front_length(b, reference, strans2) + ARRAY_LENGTH,
-            entry: e2,
-        },
+            entry: e,
+        } => Ok(Measured {
+            length: front_length(b, reference, strans) + ARRAY_LENGTH,
+            entry: e,
+        }),
     }
 }
 
@@ -269,28 +224,34 @@ pub fn measure_reference(
 // XY of an array's three points, at a place.
 fn put_corners_at(out: &mut [u8], at: usize, c: Corners) -> usize
     requires { at + corners_length ≤ length out.old }
-    ensures { Recorded (xy_record (record { x = c.x0; y = c.y0 } ∷ record { x = c.x1; y = c.y1 } ∷ record { x = c.x2; y = c.y2 } ∷ [])) corners_length out.old out.new at result }
+    ensures { Recorded (xy_record (grid_point_of c.origin ∷ grid_point_of c.column_end ∷ grid_point_of c.row_end ∷ [])) corners_length out.old out.new at result }
 {
     let a = records::put_head_at(out, at, CORNERS_LENGTH, records::XY, records::FOUR_BYTE);
-    let a0 = coordinate::put_point(out, a, c.x0, c.y0);
-    let a1 = coordinate::put_point(out, a0, c.x1, c.y1);
-    coordinate::put_point(out, a1, c.x2, c.y2)
+    let a0 = coordinate::put_point(out, a, c.origin);
+    let a1 = coordinate::put_point(out, a0, c.column_end);
+    coordinate::put_point(out, a1, c.row_end)
 }
 
 // SREF, SNAME, the transform and XY.
-fn put_sref(out: &mut [u8], b: &[u8], s: ReferencePlaces, strans: Strans, x: i32, y: i32) -> usize
+fn put_sref(
+    out: &mut [u8],
+    b: &[u8],
+    s: ReferencePlaces,
+    strans: Strans,
+    point: DatabasePoint,
+) -> usize
     requires name_in_bounds { string_end b.now s.name ≤ length b.now }
     requires bounded { Bounded b.now s }
     requires single_rest_in_bounds { size_of (strans_length strans) (number_at 2 b.now s.name) single_rest ≤ length out.old }
-    ensures { Placed (reference_bytes (sref_of b.now s strans x y)) (size_of (strans_length strans) (number_at 2 b.now s.name) single_rest) out.old out.new 0 result }
+    ensures { Placed (reference_bytes (sref_of b.now s strans point)) (size_of (strans_length strans) (number_at 2 b.now s.name) single_rest) out.old out.new 0 result }
 {
     let a = records::put_empty_at(out, 0, records::SREF);
     let a2 = records::put_string_at(out, a, records::SNAME, block_places::string_at(b, s.name));
-    let a3 = transform::put_strans_at(out, a2, strans);
-    coordinate::put_xy_at(out, a3, x, y)
+    let a3 = strans.put_at(out, a2);
+    coordinate::put_xy_at(out, a3, point)
 }
 
-// AREF, SNAME, the transform, COLROW and XY.
+// AREF, SNAME, the transform, COLROW and XY. (Three lines are as `put_sref` has them: the definitions have the bytes of a whole element, and none of this front for a clause to name.)
 fn put_aref(out: &mut [u8], b: &[u8], s: ReferencePlaces, strans: Strans, c: Corners) -> usize
     requires name_in_bounds { string_end b.now s.name ≤ length b.now }
     requires bounded { Bounded b.now s }
@@ -300,7 +261,7 @@ fn put_aref(out: &mut [u8], b: &[u8], s: ReferencePlaces, strans: Strans, c: Cor
 {
     let a = records::put_empty_at(out, 0, records::AREF);
     let a2 = records::put_string_at(out, a, records::SNAME, block_places::string_at(b, s.name));
-    let a3 = transform::put_strans_at(out, a2, strans);
+    let a3 = strans.put_at(out, a2);
     let a4 = records::put_colrow_at(out, a3, s.columns as u16, s.rows as u16);
     put_corners_at(out, a4, c)
 }
@@ -319,25 +280,23 @@ pub fn put_reference(
     requires reference_in_bounds { reference_length b.now reference ≤ length out.old }
     ensures { Writes reference_bytes entry (write_reference converter.policy converter.d (reference_at b.now reference)) 0 out.old out.new result }
 {
-    match convert_reference(converter, b, reference, entry) {
-        // Never: the reference is not refused.
-        ReferenceValues::Refused { refusal: _ } => Written { to: 0, entry },
+    let values = convert_reference(converter, b, reference, entry).unwrap();
+    match values {
         ReferenceValues::Single {
             strans,
-            x,
-            y,
+            point,
             entry: e,
         } => Written {
-            to: put_sref(out, b, reference, strans, x, y),
+            to: put_sref(out, b, reference, strans, point),
             entry: e,
         },
         ReferenceValues::Array {
-            strans: strans2,
+            strans,
             corners,
-            entry: e2,
+            entry: e,
         } => Written {
-            to: put_aref(out, b, reference, strans2, corners),
-            entry: e2,
+            to: put_aref(out, b, reference, strans, corners),
+            entry: e,
         },
     }
 }

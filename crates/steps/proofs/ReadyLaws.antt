@@ -4,15 +4,15 @@ use mathlib.Core.List.{List}
 use Prim.Native.Nat.{ℕ}
 use native.Mathlib.Omega.{arith}
 use lib.ListN.{length}
+use Rattle.std.specs.Prelude.{Err}
 use Rattle.refusal.specs.declared.Refusal.{Refusal}
 use Rattle.big_endian.specs.Buffer.{WroteAt}
 use Rattle.conversion.specs.declared.Entry.{Entry}
 use Rattle.conversion.specs.Made.{Made, refused, made}
 use Rattle.conversion.specs.code.Fold.{noted_all, run}
 use Rattle.conversion.proofs.MadeLaws.{Yields}
-use Rattle.steps.specs.declared.Measured.TheVariants as M
 use Rattle.steps.specs.code.Ready.{Ready, stopped, ready}
-use Rattle.steps.specs.code.Steps.{sizing, Measures, Succeeds, Writes}
+use Rattle.steps.specs.code.Steps.{through, sizing, Measures, Succeeds, Writes}
 use Rattle.steps.proofs.StepLaws.{run-through, succeeds}
 
 -- the step gives the value that is ready, and the entry after it
@@ -59,12 +59,12 @@ module _ {A : Type 0} (e : Entry) (m : Made A) (r : Ready A) (h : r ≡ run stop
     ready-goes-on a e' g = ap spread (sym g) ∙ met
 
   module _ (bytes : A → List ℕ) where
-    pub measure-stopped : (x : Refusal) → r ≡ stopped x → Measures bytes e m (M.Refused x)
-    measure-stopped x g = ready-stops M.Refused (sizing bytes) x g
+    pub measure-stopped : (x : Refusal) → r ≡ stopped x → Measures bytes e m (Err x)
+    measure-stopped x g = ready-stops Err (sizing bytes) x g
 
-    pub measure-ready : (a : A) (e' : Entry) (n : ℕ) → r ≡ ready a e' → n ≡ length (bytes a) → Measures bytes e m (M.Through n e')
+    pub measure-ready : (a : A) (e' : Entry) (n : ℕ) → r ≡ ready a e' → n ≡ length (bytes a) → Measures bytes e m (through n e')
     unfolding sizing
-    measure-ready a e' n g i = ap (λ (k : ℕ). M.Through k e') i ∙ ready-goes-on M.Refused (sizing bytes) a e' g
+    measure-ready a e' n g i = ap (λ (k : ℕ). through k e') i ∙ ready-goes-on Err (sizing bytes) a e' g
 
     pub write-ready : {at : ℕ} {before after : List ℕ} (a : A) (e' : Entry) (to : ℕ) → r ≡ ready a e' → WroteAt (bytes a) before after at to → Writes bytes e m at before after (record { to = to; entry = e' })
     write-ready a e' to g w =

@@ -5,6 +5,7 @@ use mathlib.Core.List.{List, [], ◌++◌, append-nil}
 use Prim.Native.Nat.{ℕ, ◌+◌, ◌≤◌}
 use native.Mathlib.Omega.{arith}
 use lib.ListN.{length, length-append}
+use Rattle.std.specs.Prelude.{Result, Ok, Err, IsErrAnd}
 use Rattle.refusal.specs.declared.Refusal.{Refusal}
 use Rattle.conversion.specs.declared.Deviation.{Deviation}
 use Rattle.conversion.specs.declared.Entry.{Entry}
@@ -15,9 +16,8 @@ use Rattle.conversion.proofs.MadeLaws.{Yields, need-on, need-off}
 use Rattle.big_endian.specs.Buffer.{splice, WroteAt}
 use Rattle.big_endian.proofs.BufferLaws.{same_bytes, then_at}
 use Rattle.steps.specs.declared.Measured.{Measured}
-use Rattle.steps.specs.declared.Measured.TheVariants as M
 use Rattle.steps.specs.declared.Written.{Written}
-use Rattle.steps.specs.code.Steps.{sizing, Measures, Succeeds, Writes}
+use Rattle.steps.specs.code.Steps.{through, sizing, Measures, Succeeds, Writes}
 
 -- ---- an answer handed on
 
@@ -29,12 +29,17 @@ unfolding run
 run-through stop k g stop' k' s f e (refused x) = s x
 run-through stop k g stop' k' s f e (made a vs) = f a (noted_all e vs)
 
+-- a refusal that `?` hands on is the one that it met
+pub handed : {A : Type 0} (P : Result A Refusal → Type 0) (x : Refusal) (w : Result A Refusal) → IsErrAnd w (λ y. y ≡ x) → P (Err x) → P w
+handed P x (Err y) e p = subst (λ (z : Refusal). P (Err z)) (sym e) p
+handed P x (Ok a) e p = absurd e
+
 -- ---- measuring two steps in a row
 
 -- what is left after a step was measured
-abbrev after : {R : Type 0} → (Refusal → R) → (ℕ → Entry → R) → Measured → R
-after stop k (M.Refused x) = stop x
-after stop k (M.Through n e) = k n e
+abbrev after : {R : Type 0} → (Refusal → R) → (ℕ → Entry → R) → Result Measured Refusal → R
+after stop k (Err x) = stop x
+after stop k (Ok m) = k m.length m.entry
 
 module _ {A B C : Type 0} (bytes₁ : A → List ℕ) (bytes₂ : B → List ℕ) (bytes : C → List ℕ) (join : A → B → C)
     (split : (a : A) (b : B) → bytes (join a b) ≡ bytes₁ a ++ bytes₂ b) (e : Entry) (m₁ : Made A) (m₂ : Made B) where
@@ -43,37 +48,37 @@ module _ {A B C : Type 0} (bytes₁ : A → List ℕ) (bytes₂ : B → List ℕ
   both = m₁ >>= λ a. m₂ >>= λ b. pure (join a b)
 
   -- the lengths add up
-  abbrev measured : (n : ℕ) (e' : Entry) → Measured
-  measured n e' = run M.Refused e' m₂ (λ b e''. M.Through (n + length (bytes₂ b)) e'')
+  abbrev measured : (n : ℕ) (e' : Entry) → Result Measured Refusal
+  measured n e' = run Err e' m₂ (λ b e''. through (n + length (bytes₂ b)) e'')
 
-  sized : (a : A) (b : B) (e' : Entry) → M.Through (length (bytes₁ a) + length (bytes₂ b)) e' ≡ sizing bytes (join a b) e'
+  sized : (a : A) (b : B) (e' : Entry) → through (length (bytes₁ a) + length (bytes₂ b)) e' ≡ sizing bytes (join a b) e'
   unfolding sizing
-  sized a b e' = ap (λ (n : ℕ). M.Through n e') (sym (ap length (split a b) ∙ length-append (bytes₁ a) (bytes₂ b)))
+  sized a b e' = ap (λ (n : ℕ). through n e') (sym (ap length (split a b) ∙ length-append (bytes₁ a) (bytes₂ b)))
 
-  whole : after M.Refused measured (run M.Refused e m₁ (sizing bytes₁)) ≡ run M.Refused e both (sizing bytes)
+  whole : after Err measured (run Err e m₁ (sizing bytes₁)) ≡ run Err e both (sizing bytes)
   unfolding sizing
   whole =
-      run-through M.Refused (sizing bytes₁) (after M.Refused measured) M.Refused (λ a e'. measured (length (bytes₁ a)) e') (λ x. refl) (λ a e'. refl) e m₁
-      ∙ run-same M.Refused e m₁ _ _ (λ a e'. run-same M.Refused e' m₂ _ _ (λ b e''. sized a b e'') ∙ sym (run-map M.Refused e' m₂ (λ b. join a b) (sizing bytes)))
-      ∙ sym (run_bind M.Refused e m₁ (λ a. m₂ >>= λ b. pure (join a b)) (sizing bytes))
+      run-through Err (sizing bytes₁) (after Err measured) Err (λ a e'. measured (length (bytes₁ a)) e') (λ x. refl) (λ a e'. refl) e m₁
+      ∙ run-same Err e m₁ _ _ (λ a e'. run-same Err e' m₂ _ _ (λ b e''. sized a b e'') ∙ sym (run-map Err e' m₂ (λ b. join a b) (sizing bytes)))
+      ∙ sym (run_bind Err e m₁ (λ a. m₂ >>= λ b. pure (join a b)) (sizing bytes))
 
-  pub measure-first-refused : (r : Measured) (x : Refusal) → Measures bytes₁ e m₁ r → r ≡ M.Refused x → Measures bytes e both (M.Refused x)
-  measure-first-refused r x h g = ap (after M.Refused measured) (sym g ∙ h) ∙ whole
+  pub measure-first-refused : (r : Result Measured Refusal) (x : Refusal) → Measures bytes₁ e m₁ r → r ≡ Err x → Measures bytes e both (Err x)
+  measure-first-refused r x h g = ap (after Err measured) (sym g ∙ h) ∙ whole
 
-  module _ (r : Measured) (n : ℕ) (e' : Entry) (h : Measures bytes₁ e m₁ r) (g : r ≡ M.Through n e') (s : Measured) (i : Measures bytes₂ e' m₂ s) where
-    second : after M.Refused (λ k e''. M.Through (n + k) e'') s ≡ run M.Refused e both (sizing bytes)
+  module _ (r : Result Measured Refusal) (n : ℕ) (e' : Entry) (h : Measures bytes₁ e m₁ r) (g : r ≡ through n e') (s : Result Measured Refusal) (i : Measures bytes₂ e' m₂ s) where
+    second : after Err (λ k e''. through (n + k) e'') s ≡ run Err e both (sizing bytes)
     unfolding sizing
     second =
-        ap (after M.Refused (λ k e''. M.Through (n + k) e'')) i
-        ∙ run-through M.Refused (sizing bytes₂) (after M.Refused (λ k e''. M.Through (n + k) e'')) M.Refused (λ b e''. M.Through (n + length (bytes₂ b)) e'') (λ x. refl) (λ b e''. refl) e' m₂
-        ∙ ap (after M.Refused measured) (sym g ∙ h)
+        ap (after Err (λ k e''. through (n + k) e'')) i
+        ∙ run-through Err (sizing bytes₂) (after Err (λ k e''. through (n + k) e'')) Err (λ b e''. through (n + length (bytes₂ b)) e'') (λ x. refl) (λ b e''. refl) e' m₂
+        ∙ ap (after Err measured) (sym g ∙ h)
         ∙ whole
 
-    pub measure-second-refused : (x : Refusal) → s ≡ M.Refused x → Measures bytes e both (M.Refused x)
-    measure-second-refused x j = ap (after M.Refused (λ k e''. M.Through (n + k) e'')) (sym j) ∙ second
+    pub measure-second-refused : (x : Refusal) → s ≡ Err x → Measures bytes e both (Err x)
+    measure-second-refused x j = ap (after Err (λ k e''. through (n + k) e'')) (sym j) ∙ second
 
-    pub measure-both : (k : ℕ) (e'' : Entry) → s ≡ M.Through k e'' → Measures bytes e both (M.Through (n + k) e'')
-    measure-both k e'' j = ap (after M.Refused (λ k e''. M.Through (n + k) e'')) (sym j) ∙ second
+    pub measure-both : (k : ℕ) (e'' : Entry) → s ≡ through k e'' → Measures bytes e both (through (n + k) e'')
+    measure-both k e'' j = ap (after Err (λ k e''. through (n + k) e'')) (sym j) ∙ second
 
 -- ---- steps that succeed
 
@@ -160,10 +165,10 @@ module _ {A B C : Type 0} (bytes₁ : A → List ℕ) (bytes₂ : B → List ℕ
 
 module _ {A B : Type 0} (bytes₁ : A → List ℕ) (bytes : B → List ℕ) (wrap : A → B) (e : Entry) (m : Made A) where
   -- its bytes stay
-  pub measure-wrapped : ((a : A) → bytes (wrap a) ≡ bytes₁ a) → (r : Measured) → Measures bytes₁ e m r → Measures bytes e (m >>= λ a. pure (wrap a)) r
+  pub measure-wrapped : ((a : A) → bytes (wrap a) ≡ bytes₁ a) → (r : Result Measured Refusal) → Measures bytes₁ e m r → Measures bytes e (m >>= λ a. pure (wrap a)) r
   unfolding sizing
   measure-wrapped kept r h =
-      h ∙ run-same M.Refused e m _ _ (λ a e'. ap (λ (s : List ℕ). M.Through (length s) e') (sym (kept a))) ∙ sym (run-map M.Refused e m wrap (sizing bytes))
+      h ∙ run-same Err e m _ _ (λ a e'. ap (λ (s : List ℕ). through (length s) e') (sym (kept a))) ∙ sym (run-map Err e m wrap (sizing bytes))
 
   wrapped : {a : A} {vs : List Deviation} → m ≡ made a vs → (m >>= λ a. pure (wrap a)) ≡ made (wrap a) (vs ++ [])
   unfolding ◌>>=◌

@@ -37,5 +37,5 @@ put-turn bs d text i h l w lt room eh el =
     subst (λ (r : ℕ). WroteAt (hex_of (take (i + 1) bs)) d (set (set text (2 * i) h) (2 * i + 1) l) 0 r) (omega arith) (same_bytes digits (then_at w two))
 
 -- all of them
-pub put-end : (bs d text : List ℕ) (i : ℕ) → Put bs d text i → length bs ≤ i → WroteAt (hex_of bs) d text 0 (2 * i)
-put-end bs d text i w h = same_bytes (ap hex_of (take_all i bs h)) w
+pub put-end : (bs d text : List ℕ) (i : ℕ) → Put bs d text i → i ≡ length bs → WroteAt (hex_of bs) d text 0 (2 * length bs)
+put-end bs d text i w e = rw (← e) (same_bytes (ap hex_of (take_all i bs (omega arith))) w)

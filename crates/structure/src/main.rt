@@ -6,7 +6,7 @@ ghost use Rattle.big_endian.specs.Buffer.{WroteAt};
 ghost use Rattle.conversion.specs.Entry.{entry_length};
 ghost use Rattle.structure.specs.Hex.{glyph, hex_of};
 
-use cell::Answer;
+use cell::{Accepted, CellRefusal};
 use conversion::ENTRY_LENGTH;
 
 // The policy byte and the eight bytes of d come before the sheet, of which this many bytes are taken.
@@ -15,6 +15,7 @@ const FRONT: usize = 9;
 const MAX_SHEET: usize = 24576;
 
 // A digit of 0 to 15, in lower case.
+#[tactic(auto, unfolding(crate::specs::Hex::glyph))]
 fn digit(n: u8) -> u8
     requires { n ≤ 15 }
     ensures { result ≡ glyph n }
@@ -30,13 +31,11 @@ fn put_hex(bytes: &[u8], text: &mut [u8]) -> usize
     requires { 2 * length bytes.now ≤ length text.old }
     ensures { WroteAt (hex_of bytes.now) text.old text.new 0 result }
 {
-    let mut i: usize = 0;
-    while i < bytes.len() {
-        text[2 * i] = digit(bytes[i] / 16);
-        text[2 * i + 1] = digit(bytes[i] % 16);
-        i = i + 1;
+    for (i, byte) in bytes.iter().enumerate() {
+        text[2 * i] = digit(byte / 16);
+        text[2 * i + 1] = digit(byte % 16);
     }
-    2 * i
+    2 * bytes.len()
 }
 
 // A line of digits.
@@ -52,28 +51,26 @@ fn print_bytes(bytes: &[u8])
 fn print_entries(entries: &[u8], n: usize)
     requires { entry_length * n ≤ length entries.now }
 {
-    let mut i: usize = 0;
-    while i < n {
-        print_bytes(&entries[ENTRY_LENGTH * i..ENTRY_LENGTH * i + ENTRY_LENGTH]);
-        i = i + 1;
+    for entry in entries[..ENTRY_LENGTH * n].chunks_exact(ENTRY_LENGTH) {
+        print_bytes(entry);
     }
 }
 
-fn print_refusal(number: u8, block: usize) {
+fn print_refused(refused: CellRefusal) {
     io::write_all(1, b"no ");
-    io::print_decimal(1, number as u64);
+    io::print_decimal(1, refused.refusal.number() as u64);
     io::write_all(1, b" ");
-    io::print_decimal(1, block as u64);
+    io::print_decimal(1, refused.block as u64);
     io::write_all(1, b"\n");
 }
 
-fn print_accepted(length: usize, entries: usize, greatest: f64) {
+fn print_accepted(accepted: Accepted) {
     io::write_all(1, b"ok ");
-    io::print_decimal(1, length as u64);
+    io::print_decimal(1, accepted.length as u64);
     io::write_all(1, b" ");
-    io::print_decimal(1, entries as u64);
+    io::print_decimal(1, accepted.entries as u64);
     io::write_all(1, b" ");
-    io::print_hex(1, binary64::to_bits(greatest), 16);
+    io::print_hex(1, binary64::to_bits(accepted.greatest), 16);
     io::write_all(1, b"\n");
 }
 
@@ -85,15 +82,11 @@ fn print_cell(input: &[u8])
     let mut out = [0u8; 16384];
     let mut report = [0u8; 8192];
     match write_cell::write_cell(policy, d, &input[FRONT..], &mut out, &mut report) {
-        Answer::Refused { refusal, block } => print_refusal(refusal.number(), block),
-        Answer::Accepted {
-            length,
-            entries,
-            greatest,
-        } => {
-            print_accepted(length, entries, greatest);
-            print_bytes(&out[..length]);
-            print_entries(&report, entries);
+        Err(refused) => print_refused(refused),
+        Ok(accepted) => {
+            print_accepted(accepted);
+            print_bytes(&out[..accepted.length]);
+            print_entries(&report, accepted.entries);
         }
     }
 }

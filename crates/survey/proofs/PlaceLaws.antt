@@ -1,24 +1,17 @@
 -- The counts of one place more, and their sum. Assumes nothing.
-use mathlib.Core.Path.{◌≡◌, refl, sym, ap, ◌∙◌}
+use mathlib.Core.Path.{◌≡◌, refl, sym, ◌∙◌}
 use mathlib.Core.Bool.{Bool, cond}
 use Prim.Native.Nat.{ℕ, zero, suc, ◌+◌}
 use native.Mathlib.Omega.{arith}
 use native.Mathlib.Numerals.{add-one}
 use lib.Ieee.{Float}
 use Rattle.conversion.specs.declared.GdsRoundingPolicy.{GdsRoundingPolicy}
-use Rattle.conversion.specs.declared.Conversion.{Conversion}
 use Rattle.conversion.specs.Field.{point_field, no_axis}
 use Rattle.conversion.specs.Convert.{Spot, convert_physical}
 use Rattle.conversion.specs.Points.{spot}
-use Rattle.conversion.specs.code.Answer.{outcome}
 use Rattle.survey.specs.declared.Placed.{Placed}
 use Rattle.survey.specs.declared.Placed.TheVariants as P
-use Rattle.survey.specs.declared.Counts.{Counts}
 use Rattle.survey.specs.Places.{place_at, placed, placed_at, count_of, is_clean, is_due, is_refused, counted, Together}
-
--- v is the answer of a conversion
-pub placed_by : (policy : GdsRoundingPolicy) (d p : Float) (v w : Conversion) (r : Placed) → ((at : Spot) → outcome at v ≡ convert_physical policy d at p) → v ≡ w → ((at : Spot) → r ≡ placed (outcome at w)) → (at : Spot) → r ≡ placed (convert_physical policy d at p)
-placed_by policy d p v w r h e k at = k at ∙ ap (λ (x : Conversion). placed (outcome at x)) (sym e) ∙ ap placed (h at)
 
 -- ---- one place more
 
@@ -50,9 +43,3 @@ pub together : Together
 unfolding counted count_of
 together policy d pitch zero = refl
 together policy d pitch (suc n) = omega (arith, together policy d pitch n, one_each (placed_at policy d pitch n))
-
--- the counts of every place passed, where none is left
-pub counts-at : (policy : GdsRoundingPolicy) (d pitch : Float) (n i : ℕ) → i ≡ n → {a b c : ℕ} → a ≡ (counted policy d pitch i).clean → b ≡ (counted policy d pitch i).due → c ≡ (counted policy d pitch i).refused
-    → ◌≡◌ {A = Counts} (record { clean = a; due = b; refused = c }) (counted policy d pitch n)
-unfolding counted
-counts-at policy d pitch n i e x y z = cc

@@ -3,22 +3,17 @@ use mathlib.Core.Path.{◌≡◌, refl, sym, ap, ◌∙◌}
 use mathlib.Core.Bool.{true, false}
 use Prim.Native.Nat.{ℕ, ◌+◌}
 use native.Mathlib.Omega.{arith}
+use Rattle.std.specs.Prelude.{Result, Ok, Err}
 use lib.Ieee.{Float}
 use lib.Ieee.Scale.{finite}
 use Rattle.refusal.specs.declared.Refusal.{Refusal}
 use Rattle.refusal.specs.declared.Refusal.TheVariants as R
 use Rattle.refusal.proofs.NumberLaws.{number-above}
 use Rattle.conversion.specs.declared.GdsRoundingPolicy.{GdsRoundingPolicy}
-use Rattle.conversion.specs.declared.CallerPolicy.{CallerPolicy}
-use Rattle.conversion.specs.declared.CallerPolicy.TheVariants as C
-use Rattle.conversion.specs.Made.{Made, refused, made}
+use Rattle.conversion.specs.Made.{Made, refused, made, pure}
 use Rattle.conversion.specs.Policy.{caller_policy}
-use Rattle.conversion.specs.code.Answer.{caller_of}
-use Rattle.conversion.proofs.MadeLaws.{Yields, made_yields, steps, checked, need-on, need-off}
-use Rattle.conversion.proofs.PolicyLaws.{caller-refused, caller-policy}
+use Rattle.conversion.proofs.MadeLaws.{Yields, made_yields, steps, checked, need-on, need-off, refused-on, pure-on}
 use Rattle.survey.specs.declared.Counts.{Counts}
-use Rattle.survey.specs.declared.SurveyAnswer.{SurveyAnswer}
-use Rattle.survey.specs.declared.SurveyAnswer.TheVariants as A
 use Rattle.survey.specs.Places.{counted, places_fit, survey_of, survey_pitch}
 use Rattle.survey.specs.Answer.{answer_of, values_of}
 use Rattle.survey.specs.Survey.{SurveysPitch}
@@ -27,29 +22,29 @@ use Rattle.survey.proofs.PlaceLaws.{together}
 -- ---- the number of places, then the pitch
 
 module _ (policy : GdsRoundingPolicy) (d pitch : Float) (n : ℕ) where
-  pub not-fitting : places_fit n ≡ false → A.Refused R.SurveyCount ≡ answer_of (survey_of policy d pitch n)
+  pub not-fitting : places_fit n ≡ false → Err R.SurveyCount ≡ answer_of (survey_of policy d pitch n)
   unfolding survey_of
   not-fitting h = sym (ap answer_of (need-off (places_fit n) R.SurveyCount _ h))
 
   module _ (f : places_fit n ≡ true) where
-    pub not_finite : finite pitch ≡ false → A.Refused R.NotFinite ≡ answer_of (survey_of policy d pitch n)
+    pub not_finite : finite pitch ≡ false → Err R.NotFinite ≡ answer_of (survey_of policy d pitch n)
     unfolding survey_of
     not_finite h = sym (ap answer_of (need-on (places_fit n) R.SurveyCount _ f ∙ need-off (finite pitch) R.NotFinite _ h))
 
-    pub counts-are : finite pitch ≡ true → (k : Counts) → k ≡ counted policy d pitch n → A.Surveyed k ≡ answer_of (survey_of policy d pitch n)
+    pub counts-are : finite pitch ≡ true → (k : Counts) → k ≡ counted policy d pitch n → Ok k ≡ answer_of (survey_of policy d pitch n)
     unfolding survey_of
-    counts-are h k e = ap (λ (x : Counts). A.Surveyed x) e ∙ sym (ap answer_of (need-on (places_fit n) R.SurveyCount _ f ∙ need-on (finite pitch) R.NotFinite _ h))
+    counts-are h k e = ap Ok e ∙ sym (ap answer_of (need-on (places_fit n) R.SurveyCount _ f ∙ need-on (finite pitch) R.NotFinite _ h))
 
 -- ---- the caller's checks before them
 
 module _ (m : ℕ) (d pitch : Float) (n : ℕ) where
-  pub caller-stop : (v : CallerPolicy) (r : Refusal) → v ≡ C.Refused r → caller_of v ≡ caller_policy m d → A.Refused r ≡ answer_of (survey_pitch m d pitch n)
+  pub caller-stop : (r : Refusal) → refused r ≡ caller_policy m d → Err r ≡ answer_of (survey_pitch m d pitch n)
   unfolding survey_pitch
-  caller-stop v r e h = ap answer_of (caller-refused m d (λ p. survey_of p d pitch n) v h r e)
+  caller-stop r h = ap answer_of (refused-on (caller_policy m d) (λ p. survey_of p d pitch n) r h)
 
-  pub caller-on : (v : CallerPolicy) (p : GdsRoundingPolicy) → v ≡ C.With p → caller_of v ≡ caller_policy m d → answer_of (survey_of p d pitch n) ≡ answer_of (survey_pitch m d pitch n)
+  pub caller-on : (p : GdsRoundingPolicy) → pure p ≡ caller_policy m d → answer_of (survey_of p d pitch n) ≡ answer_of (survey_pitch m d pitch n)
   unfolding survey_pitch
-  caller-on v p e h = ap answer_of (caller-policy m d (λ p. survey_of p d pitch n) v h p e)
+  caller-on p h = ap answer_of (pure-on (caller_policy m d) (λ p. survey_of p d pitch n) p h)
 
   -- ---- the promise
 
@@ -65,5 +60,5 @@ module _ (m : ℕ) (d pitch : Float) (n : ℕ) where
   sum_by (refused r) e z = let h = number-above r in absurd (omega arith)
   sum_by (made k vs) e z = sum-at k (record { log = vs; is = e })
 
-  pub surveys : (a : SurveyAnswer) → a ≡ answer_of (survey_pitch m d pitch n) → SurveysPitch m d pitch n (values_of a)
+  pub surveys : (a : Result Counts Refusal) → a ≡ answer_of (survey_pitch m d pitch n) → SurveysPitch m d pitch n (values_of a)
   surveys a e = record { answer = ap values_of e; together = rw e (sum_by (survey_pitch m d pitch n) refl) }

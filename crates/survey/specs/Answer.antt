@@ -1,14 +1,13 @@
 -- The answer as the code gives it, and its number and counts (document 01, its last paragraph, "Where an answer is an enum"; document 02, request 12). Assumes nothing.
-use Rattle.std.specs.Prelude.{ℕ}
+use Rattle.std.specs.Prelude.{ℕ, Result, Ok, Err}
+use Rattle.refusal.specs.declared.Refusal.{Refusal}
 use Rattle.refusal.specs.Number.{number}
 use Rattle.conversion.specs.Made.{Made, refused, made}
 use Rattle.survey.specs.declared.Counts.{Counts}
-use Rattle.survey.specs.declared.SurveyAnswer.{SurveyAnswer}
-use Rattle.survey.specs.declared.SurveyAnswer.TheVariants as A
 
-abbrev pub answer_of : Made Counts → SurveyAnswer
-answer_of (refused r) = A.Refused r
-answer_of (made k ds) = A.Surveyed k
+abbrev pub answer_of : Made Counts → Result Counts Refusal
+answer_of (refused r) = Err r
+answer_of (made k ds) = Ok k
 
 -- the refusal's number, or 0; and the three counts, which are 0 where there is a refusal
 pub record Values : Type 0 where
@@ -17,6 +16,6 @@ pub record Values : Type 0 where
   pub due : ℕ
   pub refused : ℕ
 
-abbrev pub values_of : SurveyAnswer → Values
-values_of (A.Refused r) = record { number = number r; clean = 0; due = 0; refused = 0 }
-values_of (A.Surveyed k) = record { number = 0; clean = k.clean; due = k.due; refused = k.refused }
+abbrev pub values_of : Result Counts Refusal → Values
+values_of (Err r) = record { number = number r; clean = 0; due = 0; refused = 0 }
+values_of (Ok k) = record { number = 0; clean = k.clean; due = k.due; refused = k.refused }

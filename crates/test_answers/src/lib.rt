@@ -7,9 +7,7 @@ ghost use Rattle.cell.specs.Cell.{write_cell};
 ghost use Rattle.library.specs.Library.{write_library};
 ghost use Rattle.test_answers.specs.Answer.{cell_bytes, library_bytes, answer_bytes};
 
-use cell::Answer;
 use conversion::ENTRY_LENGTH;
-use library::LibraryAnswer;
 use write_library::LIBRARY_ENTRY_LENGTH;
 
 // The job of a case: any other byte is a library.
@@ -23,18 +21,10 @@ fn put_cell_answer(text: &mut [u8], policy: u8, d: f64, sheet: &[u8]) -> usize
     let mut out = [0u8; 16384];
     let mut report = [0u8; 8192];
     match write_cell::write_cell(policy, d, sheet, &mut out, &mut report) {
-        Answer::Refused { refusal, block } => test_bytes::put_refused(
-            text,
-            refusal.number(),
-            block,
-        ),
-        Answer::Accepted {
-            length,
-            entries,
-            greatest,
-        } => {
-            let told = &report[..ENTRY_LENGTH * entries];
-            test_bytes::put_accepted(text, entries, greatest, &out[..length], told)
+        Err(e) => test_bytes::put_refused(text, e.refusal.number(), e.block),
+        Ok(a) => {
+            let told = &report[..ENTRY_LENGTH * a.entries];
+            test_bytes::put_accepted(text, a.entries, a.greatest, &out[..a.length], told)
         }
     }
 }
@@ -47,23 +37,16 @@ fn put_library_answer(text: &mut [u8], policy: u8, d: f64, sheet: &[u8]) -> usiz
     let mut out = [0u8; 65536];
     let mut report = [0u8; 16384];
     match write_library::write_library(policy, d, sheet, &mut out, &mut report) {
-        LibraryAnswer::Refused {
-            refusal,
-            cell,
-            block,
-        } => test_bytes::put_library_refused(text, refusal.number(), cell, block),
-        LibraryAnswer::Accepted {
-            length,
-            entries,
-            greatest,
-        } => {
-            let told = &report[..LIBRARY_ENTRY_LENGTH * entries];
-            test_bytes::put_accepted(text, entries, greatest, &out[..length], told)
+        Err(e) => test_bytes::put_library_refused(text, e.refusal.number(), e.cell, e.block),
+        Ok(a) => {
+            let told = &report[..LIBRARY_ENTRY_LENGTH * a.entries];
+            test_bytes::put_accepted(text, a.entries, a.greatest, &out[..a.length], told)
         }
     }
 }
 
 // The answer to a job, a policy, a d and a sheet.
+#[tactic(auto, unfolding(crate::specs::Answer::answer_bytes))]
 pub fn put_answer(text: &mut [u8], job: u8, policy: u8, d: f64, sheet: &[u8]) -> usize
     requires { 81937 ≤ length text.old }
     ensures { WroteAt (answer_bytes job policy d sheet.now) text.old text.new 0 result }

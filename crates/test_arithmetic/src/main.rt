@@ -5,7 +5,7 @@ ghost use Rattle.std.specs.Prelude.{◌≡◌, ◌+◌, ◌*◌, ◌/◌, ◌≤
 ghost use Rattle.binary64.specs.code.Whole.{rounded};
 ghost use Rattle.test_arithmetic.specs.Whole.{whole_of};
 ghost use Rattle.test_arithmetic.specs.Case as Case;
-ghost use Rattle.test_arithmetic.specs.Case.{double_of, one_of, results};
+ghost use Rattle.test_arithmetic.specs.Case.{double_of, results};
 ghost use Rattle.test_report.specs.Cases.{differing};
 
 use binary64::Direction;
@@ -21,7 +21,7 @@ const THIRD: usize = 17;
 
 const RESULT: usize = 25;
 
-// The functions' numbers (tools/known_results.c).
+// The functions' numbers (tools/known_results.c). No enum: the number is a byte of a stored case, and every byte has an answer.
 const MUL_ADD: u8 = 0;
 
 const ROUND: u8 = 1;
@@ -81,13 +81,8 @@ fn double_of(x: f64, w: Whole) -> f64
     }
 }
 
-fn one_of(b: bool) -> u64
-    ensures { result ≡ one_of b }
-{
-    if b { 1 } else { 0 }
-}
-
 // What the function with that number gives.
+#[tactic(auto, unfolding(crate::specs::Case::results))]
 fn result(function: u8, x: f64, y: f64, z: f64) -> u64
     ensures { result ≡ slice_index (results x y z) function }
 {
@@ -96,15 +91,16 @@ fn result(function: u8, x: f64, y: f64, z: f64) -> u64
         ROUND => binary64::to_bits(double_of(x, to_whole(Direction::Nearest, x))),
         FLOOR => binary64::to_bits(double_of(x, to_whole(Direction::Down, x))),
         CEIL => binary64::to_bits(double_of(x, to_whole(Direction::Up, x))),
-        WITHIN_ONE_ULP => one_of(binary64::within_one_ulp(x, y)),
+        WITHIN_ONE_ULP => u64::from(binary64::within_one_ulp(x, y)),
         BITS => binary64::to_bits(x),
-        IS_FINITE => one_of(binary64::is_finite(x)),
-        IS_POSITIVE => one_of(binary64::is_positive(x)),
+        IS_FINITE => u64::from(binary64::is_finite(x)),
+        IS_POSITIVE => u64::from(binary64::is_positive(x)),
         _ => 0,
     }
 }
 
 // Whether case k has the result that its function gives.
+#[tactic(auto, unfolding(crate::specs::Case::agrees))]
 fn agrees(cases: &[u8], k: usize) -> bool
     requires { 33 * k + 33 ≤ length cases.now }
     ensures { result ≡ Case.agrees cases.now k }
@@ -122,14 +118,7 @@ fn agrees(cases: &[u8], k: usize) -> bool
 fn differ(cases: &[u8]) -> usize
     ensures { result ≡ differing (Case.agrees cases.now) (length cases.now / 33) }
 {
-    let count = cases.len() / SIZE;
-    let mut found: usize = 0;
-    let mut k: usize = 0;
-    while k < count {
-        found = test_report::tell_case(agrees(cases, k), k, found);
-        k += 1;
-    }
-    found
+    test_report::differ(cases.len() / SIZE, |k| agrees(cases, k))
 }
 
 fn main() {

@@ -78,6 +78,10 @@ answer_at s at =
     (cond (eqb (number_at 1 s at) 4) (survey_answer (survey_at s at))
     (answer_of (converted_at s at (record { field = 0; axis = 0; place = 0 }))))
 
+-- the three words at a place
+abbrev pub stored_at : List ℕ → ℕ → Answer
+stored_at s at = record { first = number_at 8 s at; second = number_at 8 s (at + 8); third = number_at 8 s (at + 16) }
+
 -- whether three words stand at a place
 unfoldable pub words_at : ℕ → ℕ → ℕ → List ℕ → ℕ → Bool
 words_at first second third s at = eqb first (number_at 8 s at) && (eqb second (number_at 8 s (at + 8)) && eqb third (number_at 8 s (at + 16)))

@@ -7,13 +7,12 @@ ghost use Rattle.conversion.specs.Made.{refused};
 ghost use Rattle.conversion.specs.Convert.{Spot};
 ghost use Rattle.conversion.specs.code.Answer.{outcome};
 ghost use Rattle.test_conversions.specs.Case as Case;
-ghost use Rattle.test_conversions.specs.Case.{signed_at, policy_of, converter_at, unit_at, converted_at, answer_of, range_answer, range_at, survey_answer, survey_at, answer_at};
+ghost use Rattle.test_conversions.specs.Case.{signed_at, policy_of, converter_at, unit_at, converted_at, answer_of, range_answer, range_at, survey_answer, survey_at, answer_at, stored_at};
 ghost use Rattle.test_report.specs.Cases.{double_at, differing};
 
-use bounds::RangeAnswer;
+use bounds::DatabaseRange;
 use conversion::{Conversion, CoordinateConverter, GdsRoundingPolicy};
 use refusal::Refusal;
-use survey::SurveyAnswer;
 use units::Unit;
 
 // The bytes of a case, and the places in it (tools/conversions.py): what it is of stands first.
@@ -41,7 +40,7 @@ const PLACES: usize = 26;
 
 const ANSWER: usize = 30;
 
-// What a case is of: an integer with its unit, a double with its unit (1), an array's endpoint, two bounds, or a pitch survey.
+// What a case is of: an integer with its unit, an array's endpoint, two bounds, or a pitch survey; any other number is a double with its unit. No enum: the number is a byte of a stored case, and every byte has an answer.
 const INTEGER: u8 = 0;
 
 const ENDPOINT: u8 = 2;
@@ -50,28 +49,29 @@ const BOUNDS: u8 = 3;
 
 const SURVEY: u8 = 4;
 
-// The policies' numbers; strict is 3.
-const NEAREST: u8 = 0;
-
-const FLOOR: u8 = 1;
-
-const CEIL: u8 = 2;
-
 // In an answer's first word, below the refusal's number: whether the deviation counts, then the database value.
 const REFUSAL: u64 = 0x100_0000_0000;
 
 const COUNTS: u64 = 0x1_0000_0000;
 
 // An answer in three words.
-#[derive(Clone, Copy)]
+#[derive(Clone, Copy, Debug, PartialEq, Eq)]
 struct Answer {
     first: u64,
     second: u64,
     third: u64,
 }
 
-// What a caller gives first: the number of a policy, and the database unit.
+// A stored case: the place in the cases where its bytes begin.
 #[derive(Clone, Copy)]
+struct Stored<'a> {
+    cases: &'a [u8],
+    at: usize,
+    ghost whole: { at + 54 ≤ length cases.now },
+}
+
+// What a caller gives first: the number of a policy, and the database unit.
+#[derive(Clone, Copy, Debug, PartialEq)]
 struct Caller {
     policy: u8,
     d: f64,
@@ -84,18 +84,11 @@ fn signed_at(cases: &[u8], at: usize) -> i32
     big_endian::as_i32(big_endian::u32_at(cases, at))
 }
 
+// Any other number is strict: the program takes every byte.
 fn policy_of(n: u8) -> GdsRoundingPolicy
     ensures { result ≡ policy_of n }
 {
-    if n == NEAREST {
-        GdsRoundingPolicy::Nearest
-    } else if n == FLOOR {
-        GdsRoundingPolicy::Floor
-    } else if n == CEIL {
-        GdsRoundingPolicy::Ceil
-    } else {
-        GdsRoundingPolicy::ErrorIfOffGrid
-    }
+    GdsRoundingPolicy::try_from(n).unwrap_or(GdsRoundingPolicy::ErrorIfOffGrid)
 }
 
 fn unit_at(what: u8, cases: &[u8], at: usize) -> Unit
@@ -103,193 +96,185 @@ fn unit_at(what: u8, cases: &[u8], at: usize) -> Unit
     ensures { result ≡ unit_at what cases.now at }
 {
     let units = test_report::double_at(cases, at + 8);
-    if what == INTEGER {
-        let value = signed_at(cases, at + 4);
-        Unit::Integer { value, units }
-    } else {
-        let value = test_report::double_at(cases, at);
-        Unit::Float { value, units }
+    match what {
+        INTEGER => Unit::Integer {
+            value: signed_at(cases, at + 4),
+            units,
+        },
+        _ => Unit::Float {
+            value: test_report::double_at(cases, at),
+            units,
+        },
     }
 }
 
-// The caller of the case at a place.
-fn caller_at(cases: &[u8], at: usize) -> Caller
-    requires { at + 54 ≤ length cases.now }
-    ensures { (result.policy ≡ number_at 1 cases.now (at + 1)) × (result.d ≡ double_at cases.now (at + 2)) }
-{
-    let policy = big_endian::u8_at(cases, at + POLICY);
-    let d = test_report::double_at(cases, at + DATABASE_UNIT);
-    Caller { policy, d }
-}
-
-fn converter_at(cases: &[u8], at: usize) -> CoordinateConverter
-    requires { at + 54 ≤ length cases.now }
-    ensures { result ≡ converter_at cases.now at }
-{
-    let caller = caller_at(cases, at);
-    let policy = policy_of(caller.policy);
-    CoordinateConverter {
-        policy,
-        d: caller.d,
+impl Stored<'_> {
+    // The caller of the case.
+    fn caller(&self) -> Caller
+        ensures policy { result.policy ≡ number_at 1 self.now.cases.now (self.now.at + 1) }
+        ensures unit { result.d ≡ double_at self.now.cases.now (self.now.at + 2) }
+    {
+        Caller {
+            policy: big_endian::u8_at(self.cases, self.at + POLICY),
+            d: test_report::double_at(self.cases, self.at + DATABASE_UNIT),
+        }
     }
-}
 
-// An array's endpoint.
-fn endpoint(cases: &[u8], at: usize) -> Conversion
-    requires { at + 54 ≤ length cases.now }
-    ensures { (spot : Spot) → outcome spot result ≡ Case.endpoint_at cases.now at spot }
-{
-    let converter = converter_at(cases, at);
-    let p = test_report::double_at(cases, at + VALUE);
-    let origin = signed_at(cases, at + ORIGIN);
-    let spacing = signed_at(cases, at + SPACING);
-    let count = big_endian::u32_at(cases, at + COUNT);
-    converter.checked_array_endpoint(origin, spacing, count, p)
-}
+    fn converter(&self) -> CoordinateConverter
+        ensures { result ≡ converter_at self.now.cases.now self.now.at }
+    {
+        let caller = self.caller();
+        CoordinateConverter {
+            policy: policy_of(caller.policy),
+            d: caller.d,
+        }
+    }
 
-// A coordinate.
-fn coordinate(what: u8, cases: &[u8], at: usize) -> Conversion
-    requires { at + 54 ≤ length cases.now }
-    ensures { (spot : Spot) → outcome spot result ≡ Case.coordinate_at what cases.now at spot }
-{
-    let converter = converter_at(cases, at);
-    let u = unit_at(what, cases, at + VALUE);
-    converter.convert_unit(u)
-}
+    // An array's endpoint.
+    #[tactic(auto, unfolding(crate::specs::Case::endpoint_at))]
+    fn endpoint(&self) -> Result<Conversion, Refusal>
+        ensures { (spot : Spot) → outcome spot result ≡ Case.endpoint_at self.now.cases.now self.now.at spot }
+    {
+        let converter = self.converter();
+        let p = test_report::double_at(self.cases, self.at + VALUE);
+        let origin = signed_at(self.cases, self.at + ORIGIN);
+        let spacing = signed_at(self.cases, self.at + SPACING);
+        let count = big_endian::u32_at(self.cases, self.at + COUNT);
+        converter.checked_array_endpoint(origin, spacing, count, p)
+    }
 
-// The conversion of the case at a place.
-fn converted(cases: &[u8], at: usize) -> Conversion
-    requires { at + 54 ≤ length cases.now }
-    ensures { (spot : Spot) → outcome spot result ≡ converted_at cases.now at spot }
-{
-    let what = big_endian::u8_at(cases, at);
-    if what == ENDPOINT {
-        endpoint(cases, at)
-    } else {
-        coordinate(what, cases, at)
+    // A coordinate.
+    #[tactic(auto, unfolding(crate::specs::Case::coordinate_at))]
+    fn coordinate(&self, what: u8) -> Result<Conversion, Refusal>
+        ensures { (spot : Spot) → outcome spot result ≡ Case.coordinate_at what self.now.cases.now self.now.at spot }
+    {
+        let converter = self.converter();
+        let u = unit_at(what, self.cases, self.at + VALUE);
+        converter.convert_unit(u)
+    }
+
+    // The conversion of the case.
+    #[tactic(auto, unfolding(crate::specs::Case::converted_at))]
+    fn converted(&self) -> Result<Conversion, Refusal>
+        ensures { (spot : Spot) → outcome spot result ≡ converted_at self.now.cases.now self.now.at spot }
+    {
+        match big_endian::u8_at(self.cases, self.at) {
+            ENDPOINT => self.endpoint(),
+            what => self.coordinate(what),
+        }
+    }
+
+    // The answer of two bounds.
+    #[tactic(auto, unfolding(crate::specs::Case::range_at))]
+    fn range_answer(&self) -> Answer
+        ensures { result ≡ range_answer (range_at self.now.cases.now self.now.at) }
+    {
+        let caller = self.caller();
+        let lower = test_report::double_at(self.cases, self.at + LOWER);
+        let upper = test_report::double_at(self.cases, self.at + UPPER);
+        match bounds::convert_bounds(caller.policy, caller.d, lower, upper) {
+            Err(refusal) => refusal_answer(refusal),
+            Ok(DatabaseRange { least, greatest }) => Answer {
+                first: u64::from(big_endian::as_u32(least)),
+                second: u64::from(big_endian::as_u32(greatest)),
+                third: 0,
+            },
+        }
+    }
+
+    // The answer of a pitch survey.
+    #[tactic(auto, unfolding(crate::specs::Case::survey_at))]
+    fn survey_answer(&self) -> Answer
+        ensures { result ≡ survey_answer (survey_at self.now.cases.now self.now.at) }
+    {
+        let caller = self.caller();
+        let pitch = test_report::double_at(self.cases, self.at + PITCH);
+        let n = big_endian::u32_at(self.cases, self.at + PLACES);
+        match survey::survey_pitch(caller.policy, caller.d, pitch, n) {
+            Err(refusal) => refusal_answer(refusal),
+            Ok(counts) => Answer {
+                first: u64::from(counts.clean),
+                second: u64::from(counts.due),
+                third: u64::from(counts.refused),
+            },
+        }
+    }
+
+    // The answer of the case.
+    #[tactic(auto, unfolding(crate::specs::Case::answer_at))]
+    fn answer(&self) -> Answer
+        ensures { result ≡ answer_at self.now.cases.now self.now.at }
+    {
+        match big_endian::u8_at(self.cases, self.at) {
+            BOUNDS => self.range_answer(),
+            SURVEY => self.survey_answer(),
+            _ => answer_of(self.converted()),
+        }
+    }
+
+    // The answer that is stored with it.
+    fn stored_answer(&self) -> Answer
+        ensures { result ≡ stored_at self.now.cases.now (self.now.at + 30) }
+    {
+        let at = self.at + ANSWER;
+        Answer {
+            first: big_endian::u64_at(self.cases, at),
+            second: big_endian::u64_at(self.cases, at + 8),
+            third: big_endian::u64_at(self.cases, at + 16),
+        }
     }
 }
 
 fn refusal_answer(refusal: Refusal) -> Answer
     ensures { result ≡ answer_of (refused refusal) }
 {
-    let first = (refusal.number() as u64) * REFUSAL;
     Answer {
-        first,
+        first: u64::from(refusal.number()) * REFUSAL,
         second: 0,
         third: 0,
     }
 }
 
-fn answer_of(c: Conversion) -> Answer
+fn answer_of(c: Result<Conversion, Refusal>) -> Answer
     ensures { (spot : Spot) → result ≡ answer_of (outcome spot c) }
 {
     match c {
-        Conversion::Refused { refusal } => refusal_answer(refusal),
-        Conversion::Converted { value } => Answer {
-            first: big_endian::as_u32(value) as u64,
+        Err(refusal) => refusal_answer(refusal),
+        Ok(Conversion::Converted { value }) => Answer {
+            first: u64::from(big_endian::as_u32(value)),
             second: 0,
             third: 0,
         },
-        Conversion::Quantized {
-            value,
-            physical,
-            error,
-        } => Answer {
-            first: COUNTS + (big_endian::as_u32(value) as u64),
+        Ok(
+            Conversion::Quantized {
+                value,
+                physical,
+                error,
+            },
+        ) => Answer {
+            first: COUNTS + u64::from(big_endian::as_u32(value)),
             second: binary64::to_bits(physical),
             third: binary64::to_bits(error),
         },
     }
 }
 
-// The answer of two bounds.
-fn range_answer(cases: &[u8], at: usize) -> Answer
-    requires { at + 54 ≤ length cases.now }
-    ensures { result ≡ range_answer (range_at cases.now at) }
-{
-    let caller = caller_at(cases, at);
-    let lower = test_report::double_at(cases, at + LOWER);
-    let upper = test_report::double_at(cases, at + UPPER);
-    match bounds::convert_bounds(caller.policy, caller.d, lower, upper) {
-        RangeAnswer::Refused { refusal } => refusal_answer(refusal),
-        RangeAnswer::Range { least, greatest } => Answer {
-            first: big_endian::as_u32(least) as u64,
-            second: big_endian::as_u32(greatest) as u64,
-            third: 0,
-        },
-    }
-}
-
-// The answer of a pitch survey.
-fn survey_answer(cases: &[u8], at: usize) -> Answer
-    requires { at + 54 ≤ length cases.now }
-    ensures { result ≡ survey_answer (survey_at cases.now at) }
-{
-    let caller = caller_at(cases, at);
-    let pitch = test_report::double_at(cases, at + PITCH);
-    let n = big_endian::u32_at(cases, at + PLACES);
-    match survey::survey_pitch(caller.policy, caller.d, pitch, n) {
-        SurveyAnswer::Refused { refusal } => refusal_answer(refusal),
-        SurveyAnswer::Surveyed { counts } => Answer {
-            first: counts.clean as u64,
-            second: counts.due as u64,
-            third: counts.refused as u64,
-        },
-    }
-}
-
-// The answer of the case at a place.
-fn answer_at(cases: &[u8], at: usize) -> Answer
-    requires { at + 54 ≤ length cases.now }
-    ensures { result ≡ answer_at cases.now at }
-{
-    let what = big_endian::u8_at(cases, at);
-    if what == BOUNDS {
-        return range_answer(cases, at);
-    }
-    if what == SURVEY {
-        return survey_answer(cases, at);
-    }
-    answer_of(converted(cases, at))
-}
-
-// Whether the three words stand at a place.
-fn is_at(first: u64, second: u64, third: u64, cases: &[u8], at: usize) -> bool
-    requires { at + 24 ≤ length cases.now }
-    ensures { result ≡ Case.words_at first second third cases.now at }
-{
-    if first != big_endian::u64_at(cases, at) {
-        return false;
-    }
-    if second != big_endian::u64_at(cases, at + 8) {
-        return false;
-    }
-    third == big_endian::u64_at(cases, at + 16)
-}
-
 // Whether case k has the answer that the code gives.
+#[tactic(auto, unfolding(crate::specs::Case::agrees, crate::specs::Case::words_at))]
 fn agrees(cases: &[u8], k: usize) -> bool
     requires { 54 * k + 54 ≤ length cases.now }
     ensures { result ≡ Case.agrees cases.now k }
 {
     let at = SIZE * k;
-    let a = answer_at(cases, at);
-    is_at(a.first, a.second, a.third, cases, at + ANSWER)
+    let case = Stored { cases, at };
+    case.answer() == case.stored_answer()
 }
 
 // Prints the number of each case that differs, and answers how many do.
 fn differ(cases: &[u8]) -> usize
     ensures { result ≡ differing (Case.agrees cases.now) (length cases.now / 54) }
 {
-    let count = cases.len() / SIZE;
-    let mut found: usize = 0;
-    let mut k: usize = 0;
-    while k < count {
-        found = test_report::tell_case(agrees(cases, k), k, found);
-        k += 1;
-    }
-    found
+    test_report::differ(cases.len() / SIZE, |k| agrees(cases, k))
 }
 
 fn main() {

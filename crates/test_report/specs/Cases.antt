@@ -12,3 +12,8 @@ double_at s at = of_bits binary64 (number_at 8 s at)
 unfoldable pub differing : (ℕ → Bool) → ℕ → ℕ
 differing agrees zero = 0
 differing agrees (suc n) = differing agrees n + cond (agrees n) 0 1
+
+-- of the first n cases, each of which has an answer of a test, `found` do not agree
+pub data Differ (answers : ℕ → Bool → Type 0) : ℕ → ℕ → Type 0 where
+  none : Differ answers 0 0
+  more : {n found : ℕ} (agrees : Bool) → answers n agrees → Differ answers n found → Differ answers (suc n) (found + cond agrees 0 1)

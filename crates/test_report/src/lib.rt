@@ -1,8 +1,8 @@
 // What the test programs read and say of their stored cases.
 #![tactic(auto)]
 
-ghost use Rattle.std.specs.Prelude.{cond, ◌≡◌, ◌+◌, ◌≤◌, ◌<◌, ◌^◌, length};
-ghost use Rattle.test_report.specs.Cases.{double_at};
+ghost use Rattle.std.specs.Prelude.{ℕ, cond, ◌≡◌, ◌+◌, ◌≤◌, ◌<◌, ◌^◌, length};
+ghost use Rattle.test_report.specs.Cases.{double_at, Differ};
 
 // 2,359,296 zeros, for all cases at once.
 pub fn room() -> [u8; 2359296]
@@ -19,7 +19,7 @@ pub fn double_at(cases: &[u8], at: usize) -> f64
     binary64::from_bits(big_endian::u64_at(cases, at))
 }
 
-// How many differ after case k; prints its number where it does.
+// How many differ after case k; prints its number where it does. Here and below not by `println!`, which asks for the runtime's handle: the test programs have none.
 pub fn tell_case(agrees: bool, k: usize, found: usize) -> usize
     requires { found + 1 < 2 ^ 64 }
     ensures { result ≡ found + cond agrees 0 1 }
@@ -30,6 +30,18 @@ pub fn tell_case(agrees: bool, k: usize, found: usize) -> usize
     io::print_decimal(1, k as u64);
     io::write_all(1, b"\n");
     found + 1
+}
+
+// How many of the first n cases differ; prints the number of each.
+pub fn differ<F: Fn(usize) -> bool>(n: usize, agrees: F) -> usize
+    requires { (k : ℕ) → k < n → F.pre agrees k }
+    ensures { Differ (F.post agrees) n result }
+{
+    let mut found: usize = 0;
+    for k in 0..n {
+        found = tell_case(agrees(k), k, found);
+    }
+    found
 }
 
 // The last line.

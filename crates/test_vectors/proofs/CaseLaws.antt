@@ -7,7 +7,7 @@ use native.Mathlib.Omega.{arith}
 use lib.Dec.{leb, ltb}
 use lib.ListN.{length, take, drop}
 use lib.Ieee.{Float, binary64, of_bits}
-use borrow.Author.Tests.{leb-true, leb-false, le-leb, lt-leb, ltb-true, lt-ltb, le-ltb}
+use borrow.Author.Tests.{leb-true, ltb-true, lt-ltb, le-ltb}
 use Rattle.big_endian.specs.Big.{number_at}
 use Rattle.big_endian.specs.Buffer.{WroteAt}
 use Rattle.test_answers.specs.Answer.{answer_bytes}
@@ -17,14 +17,6 @@ use Rattle.test_vectors.specs.Case.{input_length, answer_length, fits, Fits, def
 
 -- ---- within the bytes
 
--- tests that say the same
-leb-same : (a b c d : ℕ) → (a ≤ b → c ≤ d) → (b < a → d < c) → leb a b ≡ leb c d
-leb-same a b c d f g = go (leb a b) refl
-  where
-    go : (t : Bool) → leb a b ≡ t → leb a b ≡ leb c d
-    go true e = e ∙ sym (le-leb c d (f (leb-true a b e)))
-    go false e = e ∙ sym (lt-leb c d (g (leb-false a b e)))
-
 module _ (s : List ℕ) (at : ℕ) where
   abbrev n : ℕ
   n = input_length s at
@@ -32,9 +24,9 @@ module _ (s : List ℕ) (at : ℕ) where
   abbrev m : ℕ
   m = answer_length s at
 
-  pub fits-true : fits s at ≡ true → Fits s at
+  pub fits_true : fits s at ≡ true → Fits s at
   unfolding fits
-  fits-true e =
+  fits_true e =
       let p = leb (at + 8) (length s) in
       let q = leb 10 n in
       let r = leb (at + 8 + n) (length s) in
@@ -43,46 +35,11 @@ module _ (s : List ℕ) (at : ℕ) where
       let c = both p q b.0 in
       record { front = leb-true 10 n c.1; input = leb-true (at + 8 + n) (length s) b.1; answer = leb-true (at + 8 + n + m) (length s) a.1 }
 
-  -- each way out of the test
-  pub no_lengths : length s < at + 8 → false ≡ fits s at
-  unfolding fits
-  no_lengths h = simp (lt-leb (at + 8) (length s) h)
-
-  pub no_front : at + 8 ≤ length s → n < 10 → false ≡ fits s at
-  unfolding fits
-  no_front h i = simp (le-leb (at + 8) (length s) h, lt-leb 10 n i)
-
-  pub no-input : at + 8 ≤ length s → 10 ≤ n → length s < at + 8 + n → false ≡ fits s at
-  unfolding fits
-  no-input h i j = simp (le-leb (at + 8) (length s) h, le-leb 10 n i, lt-leb (at + 8 + n) (length s) j)
-
-  -- the last test, by what is left of the bytes
-  pub by_answer : (a b : ℕ) → a ≡ n → b ≡ number_at 4 s (at + 4 + a) → at + 8 ≤ length s → 10 ≤ a → a ≤ length s - at - 8 → leb b (length s - at - 8 - a) ≡ fits s at
-  unfolding fits
-  by_answer a b e f h i j =
-      let g : b ≡ m = f ∙ ap (λ (k : ℕ). number_at 4 s (at + 4 + k)) e in
-      leb-same b (length s - at - 8 - a) (at + 8 + n + m) (length s) (λ u. omega arith) (λ u. omega arith)
-      ∙ simp (le-leb (at + 8) (length s) h, le-leb 10 n (omega arith), le-leb (at + 8 + n) (length s) (omega arith))
-
-  pub agrees-fits : fits s at ≡ true → answered_at s at ≡ agrees_at s at
-  unfolding agrees_at
-  agrees-fits e = simp e
-
-  pub agrees-not : fits s at ≡ false → false ≡ agrees_at s at
-  unfolding agrees_at
-  agrees-not e = simp e
-
   next_place : fits s at ≡ true → next s at ≡ at + 8 + n + m
   unfolding next
   next_place e = simp e
 
-  pub next_fits : (a b : ℕ) → a ≡ n → b ≡ number_at 4 s (at + 4 + a) → fits s at ≡ true → at + 8 + a + b ≡ next s at
-  next_fits a b e f g =
-      let i : b ≡ m = f ∙ ap (λ (k : ℕ). number_at 4 s (at + 4 + k)) e in
-      let j = next_place g in
-      omega arith
-
-  pub next_last : fits s at ≡ false → length s ≡ next s at
+  next_last : fits s at ≡ false → length s ≡ next s at
   unfolding next
   next_last e = simp e
 
@@ -91,16 +48,10 @@ module _ (s : List ℕ) (at : ℕ) where
   next-within h = go (fits s at) refl
     where
       go : (t : Bool) → fits s at ≡ t → (at < next s at) × (next s at ≤ length s)
-      go true e = let f = fits-true e in let a = f.answer in let b = next_place e in (omega arith, omega arith)
+      go true e = let f = fits_true e in let a = f.answer in let b = next_place e in (omega arith, omega arith)
       go false e = let b = next_last e in (omega arith, omega arith)
 
 -- ---- the stored answer and the one that was put
-
-pub stored-end : (s : List ℕ) (at a b : ℕ) → Fits s at → a ≡ input_length s at → b ≡ number_at 4 s (at + 4 + a) → at + 8 + a + b ≤ length s
-stored-end s at a b f e g =
-    let i = f.answer in
-    let j : b ≡ answer_length s at = g ∙ ap (λ (x : ℕ). number_at 4 s (at + 4 + x)) e in
-    omega arith
 
 -- r says whether what was put is what is stored
 pub answered-is : (s : List ℕ) (at a b job policy end : ℕ) (d : Float) (before text : List ℕ) (r : Bool)
@@ -123,7 +74,7 @@ pub agreeing : (s : List ℕ) (at : ℕ) → agrees_at s at ≡ true → Fits s 
 unfolding agrees_at answered_at
 agreeing s at e =
     let a = both (fits s at) (answered_at s at) e in
-    (fits-true s at a.0, alike (defined_at s at) (stored_at s at) a.1)
+    (fits_true s at a.0, alike (defined_at s at) (stored_at s at) a.1)
 
 -- ---- the cases in turn
 

@@ -27,6 +27,7 @@ struct Tally {
 }
 
 // Whether the case at a place lies within the bytes.
+#[tactic(auto, unfolding(crate::specs::Case::fits))]
 fn fits(cases: &[u8], at: usize) -> bool
     requires { at ≤ length cases.now }
     ensures { result ≡ Case.fits cases.now at }
@@ -47,6 +48,7 @@ fn fits(cases: &[u8], at: usize) -> bool
 }
 
 // The place after the case at a place. A case that does not fit is the last one.
+#[tactic(auto, using(crate::proofs::CaseLaws::fits_true), unfolding(crate::specs::Case::next))]
 fn next_place(cases: &[u8], at: usize) -> usize
     requires { at ≤ length cases.now }
     ensures { result ≡ next cases.now at }
@@ -76,14 +78,12 @@ fn answered(cases: &[u8], at: usize) -> bool
     check::same(&text[..end], &cases[start..start + m])
 }
 
+#[tactic(auto, using(crate::proofs::CaseLaws::fits_true), unfolding(crate::specs::Case::agrees_at))]
 fn agrees(cases: &[u8], at: usize) -> bool
     requires { at ≤ length cases.now }
     ensures { result ≡ agrees_at cases.now at }
 {
-    if fits(cases, at) {
-        return answered(cases, at);
-    }
-    false
+    fits(cases, at) && answered(cases, at)
 }
 
 // Prints the number of each case that differs.
@@ -93,6 +93,7 @@ fn walk(cases: &[u8]) -> Tally
     let mut at: usize = 0;
     let mut count: usize = 0;
     let mut found: usize = 0;
+    // A `while`: cases have unequal lengths, so the place is counted, and no index.
     while at < cases.len() {
         found = test_report::tell_case(agrees(cases, at), count, found);
         count += 1;

@@ -8,18 +8,22 @@ use lib.Dec.{leb, leb→le}
 use lib.ListN.{length}
 use lib.IntN.{ℤ}
 use lib.Ieee.{Float}
+use Rattle.std.specs.Prelude.{Result, Ok, Err, IsOk}
+use Rattle.std.specs.Result.{result_and}
 use Rattle.refusal.specs.declared.Refusal.{Refusal}
 use Rattle.refusal.specs.declared.Refusal.TheVariants as R
 use Rattle.big_endian.specs.Big.{number_at}
 use Rattle.units.specs.Point.{Point}
+use Rattle.conversion.specs.declared.DatabasePoint.{DatabasePoint}
 use Rattle.conversion.specs.declared.Entry.{Entry}
 use Rattle.conversion.specs.declared.GdsRoundingPolicy.{GdsRoundingPolicy}
 use Rattle.conversion.specs.Field.{origin_field}
-use Rattle.conversion.specs.code.Fold.{noted_all, run}
-use Rattle.conversion.specs.Made.{Made, Done, refused, pure, ◌>>=◌, ◌>>◌}
+use Rattle.conversion.specs.code.Answer.{made_of, grid_point_of}
+use Rattle.conversion.specs.code.Fold.{run}
+use Rattle.conversion.specs.Made.{Made, Done, ◌>>=◌, ◌>>◌}
 use Rattle.conversion.specs.Points.{write_point}
-use Rattle.conversion.proofs.FoldLaws.{run_bind, run-map}
-use Rattle.conversion.proofs.MadeLaws.{Yields, made_yields, steps, then-steps, checked, refused-on, pure-on, then-assoc}
+use Rattle.conversion.proofs.FoldLaws.{run_bind, run-map, run-same}
+use Rattle.conversion.proofs.MadeLaws.{Yields, made_yields, steps, then-steps, checked, pure-on, then-assoc}
 use Rattle.sheet.specs.Element as S
 use Rattle.stream.specs.Strings.{padded}
 use Rattle.stream.specs.Structure as D
@@ -35,79 +39,51 @@ use Rattle.block_places.specs.code.Places.{text_at}
 use Rattle.block_places.proofs.StringLaws.{length-string}
 use Rattle.validation.proofs.CheckLaws.{both-yield}
 use Rattle.coordinate.specs.declared.Pointed.{Pointed}
-use Rattle.coordinate.specs.declared.Pointed.TheVariants as P
 use Rattle.coordinate.specs.code.Coordinate.{pointed, GivesPoint}
+use Rattle.coordinate.proofs.TurnLaws.{spread}
 use Rattle.transform.specs.declared.Strans.{Strans}
 use Rattle.transform.specs.code.Strans.{said_of, strans_bytes, strans_length}
 use Rattle.transform.proofs.StransLaws.{then-strans, length-strans, length-strans-of, transform-length}
 use Rattle.steps.specs.code.Ready.{Ready, stopped, ready}
 use Rattle.steps.specs.code.Steps.{Succeeds}
 use Rattle.steps.proofs.StepLaws.{run-through, yields, past-check}
-use Rattle.steps.proofs.ReadyLaws.{ready-yields}
+use Rattle.steps.proofs.ReadyLaws.{ready-yields, never-stopped}
 use Rattle.text.specs.declared.TextValues.{TextValues}
-use Rattle.text.specs.declared.TextValues.TheVariants as X
 use Rattle.text.specs.code.Text.{SaidText, text_bytes, size_of, text_length, string_check, after_checks, text_of, ready_of}
 
 -- what the records say of a text whose transform and origin are these
 abbrev said : S.Text → Option D.Strans → Point ℤ → SaidText
 said t u o = record { layer = t.layer; texttype = t.texttype; presentation = some (4 * t.vertical + t.horizontal); transform = u; origin = o; string = padded t.string }
 
-pub said-of : (b : List ℕ) (s : TextPlaces) (t : Strans) (x y : ℤ) → said (text_at b s) (said_of t) (record { x = x; y = y }) ≡ text_of b s t x y
+pub said-of : (b : List ℕ) (s : TextPlaces) (t : Strans) (p : DatabasePoint) → said (text_at b s) (said_of t) (grid_point_of p) ≡ text_of b s t p
 unfolding text_of text_at
-said-of b s t x y = refl
+said-of b s t p = refl
 
--- ---- the checks and conversions in turn, whatever is to follow
+-- ---- the checks and conversions in turn
 
-module _ {Z : Type 0} (stop : Refusal → Z) (e : Entry) (k : SaidText → Entry → Z) (policy : GdsRoundingPolicy) (d : Float) (t : S.Text) where
-  abbrev checks : Made Done
-  checks = layer_and_type t.layer t.texttype >> string_check (length t.string)
+pub both-checked : (a b : Result Done Refusal) → made_of (result_and a b) ≡ made_of a >> made_of b
+unfolding ◌>>◌ ◌>>=◌
+both-checked (Ok u) (Ok v) = refl
+both-checked (Ok u) (Err y) = refl
+both-checked (Err x) b = refl
 
-  checked-first : (m : Made SaidText) → m ≡ checks >> after_checks policy d t → run stop e m k ≡ run stop e (write_text policy d t) k
+module _ (policy : GdsRoundingPolicy) (d : Float) (t : S.Text) where
+  -- the checks, then the conversions
+  pub text-is : write_text policy d t ≡ layer_and_type t.layer t.texttype >> string_check (length t.string) >> after_checks policy d t
   unfolding write_text string_check after_checks
-  checked-first m h = ap (λ (n : Made SaidText). run stop e n k) (h ∙ then-assoc (layer_and_type t.layer t.texttype) (string_check (length t.string)) (after_checks policy d t))
+  text-is = sym (then-assoc (layer_and_type t.layer t.texttype) (string_check (length t.string)) (after_checks policy d t))
 
-  pub checks-stop : (x : Refusal) → refused x ≡ checks → stop x ≡ run stop e (write_text policy d t) k
-  unfolding run ◌>>◌
-  checks-stop x h = checked-first (refused x) (refused-on checks _ x h)
-
-  pub checks-pass : pure tt ≡ checks → run stop e (after_checks policy d t) k ≡ run stop e (write_text policy d t) k
-  unfolding ◌>>◌
-  checks-pass h = checked-first (after_checks policy d t) (pure-on checks _ tt h)
-
-  abbrev rest : Option D.Strans → Made SaidText
-  rest u = write_point policy d origin_field 0 t.origin >>= λ o. pure (said t u o)
-
-  converted : (m : Made (Option D.Strans)) → m ≡ write_transform t.degrees t.magnification t.reflection
-      → run stop e m (λ u e'. run stop e' (rest u) k) ≡ run stop e (after_checks policy d t) k
+  -- the transform, then the origin
+  pub conversions-are : (e : Entry) → run stopped e (after_checks policy d t) ready
+      ≡ run stopped e (write_transform t.degrees t.magnification t.reflection) (λ u e1. run stopped e1 (write_point policy d origin_field 0 t.origin) (λ o e2. ready (said t u o) e2))
   unfolding after_checks
-  converted m i = ap (λ (n : Made (Option D.Strans)). run stop e n (λ u e'. run stop e' (rest u) k)) i ∙ sym (run_bind stop e _ rest k)
+  conversions-are e =
+      run_bind stopped e (write_transform t.degrees t.magnification t.reflection) _ ready
+      ∙ run-same stopped e (write_transform t.degrees t.magnification t.reflection) _ _ (λ u e1. run-map stopped e1 (write_point policy d origin_field 0 t.origin) (said t u) ready)
 
-  pub text-transform : (x : Refusal) → refused x ≡ write_transform t.degrees t.magnification t.reflection → stop x ≡ run stop e (after_checks policy d t) k
-  unfolding run
-  text-transform x i = converted (refused x) i
-
-  module _ (u : Option D.Strans) (i : pure u ≡ write_transform t.degrees t.magnification t.reflection)
-      (r : Pointed) (j : GivesPoint e (write_point policy d origin_field 0 t.origin) r) where
-    abbrev spread : Pointed → Z
-    spread (P.Refused x) = stop x
-    spread (P.At x y e') = k (said t u (record { x = x; y = y })) e'
-
-    after : run stop e (rest u) k ≡ run stop e (after_checks policy d t) k
-    unfolding run noted_all
-    after = converted (pure u) i
-
-    origin : (q : Pointed) → r ≡ q → spread q ≡ run stop e (after_checks policy d t) k
-    origin q l =
-        ap spread (sym l ∙ j.is)
-        ∙ run-through P.Refused pointed spread stop (λ o e'. k (said t u o) e') (λ x. refl) (λ o e'. refl) e (write_point policy d origin_field 0 t.origin)
-        ∙ sym (run-map stop e (write_point policy d origin_field 0 t.origin) (said t u) k)
-        ∙ after
-
-    pub text-origin : (x : Refusal) → r ≡ P.Refused x → stop x ≡ run stop e (after_checks policy d t) k
-    text-origin x l = origin (P.Refused x) l
-
-    pub text-through : (x y : ℤ) (e' : Entry) → r ≡ P.At x y e' → k (said t u (record { x = x; y = y })) e' ≡ run stop e (after_checks policy d t) k
-    text-through x y e' l = origin (P.At x y e') l
+-- what is left after a point
+pub point-met : {e : Entry} {m : Made (Point ℤ)} (k : Point ℤ → Entry → Ready SaidText) (r : Result Pointed Refusal) → GivesPoint e m r → run stopped e m k ≡ spread stopped k r
+point-met {e} {m} k r h = sym (run-through Err pointed (spread stopped k) stopped k (λ x. refl) (λ q e1. refl) e m) ∙ ap (spread stopped k) (sym h.is)
 
 -- a text that succeeds has passed its checks
 text-past : (policy : GdsRoundingPolicy) (d : Float) (t : S.Text) → Succeeds (write_text policy d t) → write_text policy d t ≡ after_checks policy d t
@@ -119,6 +95,11 @@ text-past policy d t s =
 -- and what is ready after them is its own
 pub ready-past : (policy : GdsRoundingPolicy) (d : Float) (t : S.Text) (e : Entry) (r : Ready SaidText) → Succeeds (write_text policy d t) → r ≡ run stopped e (after_checks policy d t) ready → r ≡ run stopped e (write_text policy d t) ready
 ready-past policy d t e r s h = h ∙ ap (λ (m : Made SaidText). run stopped e m ready) (sym (text-past policy d t s))
+
+-- and nothing of it is refused
+pub never-refused : (policy : GdsRoundingPolicy) (d : Float) (b : List ℕ) (s : TextPlaces) (e : Entry) (r : Result TextValues Refusal) → Succeeds (write_text policy d (text_at b s)) → ready_of b s r ≡ run stopped e (after_checks policy d (text_at b s)) ready → IsOk r
+never-refused policy d b s e (Err x) w h = never-stopped e _ x w (ready-past policy d (text_at b s) e (stopped x) w h)
+never-refused policy d b s e (Ok v) w h = refl
 
 -- ---- lengths
 
@@ -150,13 +131,13 @@ module _ (b : List ℕ) (s : TextPlaces) (inside : string_end b s.string ≤ len
   unfolding text_at
   string-long = length-string b s.string inside
 
-  pub read-long : (read : List ℕ) → read ≡ string_at b s.string → length read ≡ number_at 2 b s.string
-  read-long read h = ap length h ∙ length-string b s.string inside
+  pub read_long : (read : List ℕ) → read ≡ string_at b s.string → length read ≡ number_at 2 b s.string
+  read_long read h = ap length h ∙ length-string b s.string inside
 
-  pub length-text-of : (t : Strans) (x y : ℤ) → length (text_bytes (text_of b s t x y)) ≡ size_of (strans_length t) (number_at 2 b s.string)
-  length-text-of t x y =
-      ap (λ (w : SaidText). length (text_bytes w)) (sym (said-of b s t x y))
-      ∙ length-said (text_at b s) (said_of t) (record { x = x; y = y })
+  pub length-text-of : (t : Strans) (p : DatabasePoint) → length (text_bytes (text_of b s t p)) ≡ size_of (strans_length t) (number_at 2 b s.string)
+  length-text-of t p =
+      ap (λ (w : SaidText). length (text_bytes w)) (sym (said-of b s t p))
+      ∙ length-said (text_at b s) (said_of t) (grid_point_of p)
       ∙ ap₂ size_of (length-strans-of t) string-long
 
   module _ (policy : GdsRoundingPolicy) (d : Float) (w : SaidText) (y : Yields (write_text policy d (text_at b s)) w) where
@@ -178,40 +159,30 @@ module _ (b : List ℕ) (s : TextPlaces) (inside : string_end b s.string ≤ len
         subst (λ (k : ℕ). k ≤ max_string_length) string-long (leb→le (length (text_at b s).string) max_string_length n.passed)
 
   -- the same of the values that are ready
-  module _ (policy : GdsRoundingPolicy) (d : Float) (e : Entry) (r : TextValues) (h : ready_of b s r ≡ run stopped e (write_text policy d (text_at b s)) ready)
-      (t : Strans) (x y : ℤ) (e' : Entry) (g : r ≡ X.Ready t x y e') where
-    gives : Yields (write_text policy d (text_at b s)) (text_of b s t x y)
-    gives = ready-yields e (write_text policy d (text_at b s)) (text_of b s t x y) e' (ap (ready_of b s) (sym g) ∙ h)
+  module _ (policy : GdsRoundingPolicy) (d : Float) (e : Entry) (v : TextValues) (h : ready_of b s (Ok v) ≡ run stopped e (write_text policy d (text_at b s)) ready) where
+    gives : Yields (write_text policy d (text_at b s)) (text_of b s v.strans v.point)
+    gives = ready-yields e (write_text policy d (text_at b s)) (text_of b s v.strans v.point) v.entry h
 
-    pub ready-length : size_of (strans_length t) (number_at 2 b s.string) ≡ text_length b s
-    ready-length = sym (length-text-of t x y) ∙ text-length policy d (text_of b s t x y) gives
+    pub ready-length : size_of (strans_length v.strans) (number_at 2 b s.string) ≡ text_length b s
+    ready-length = sym (length-text-of v.strans v.point) ∙ text-length policy d (text_of b s v.strans v.point) gives
 
     pub ready-short : number_at 2 b s.string ≤ max_string_length
-    ready-short = text-short policy d (text_of b s t x y) gives
+    ready-short = text-short policy d (text_of b s v.strans v.point) gives
 
 -- ---- the records in the output
 
-pub text-placed : (b : List ℕ) (s : TextPlaces) (t : Strans) (x y z w : ℤ) (v n : ℕ) (str : List ℕ) {d1 d2 d3 d4 d5 d6 d7 d8 : List ℕ} {a1 a2 a3 a4 a5 a6 a7 a8 : ℕ}
-    → z ≡ x → w ≡ y → v ≡ 4 * s.vertical + s.horizontal → str ≡ string_at b s.string → length str ≡ n
+pub text-placed : (b : List ℕ) (s : TextPlaces) (t : Strans) (p : DatabasePoint) (v n : ℕ) (str : List ℕ) {d1 d2 d3 d4 d5 d6 d7 d8 : List ℕ} {a1 a2 a3 a4 a5 a6 a7 a8 : ℕ}
+    → v ≡ 4 * s.vertical + s.horizontal → str ≡ string_at b s.string → length str ≡ n
     → Recorded (empty_record TEXT) 4 d1 d2 a1 a2
     → Recorded (word_record LAYER s.layer) 6 d2 d3 a2 a3
     → Recorded (word_record TEXTTYPE s.texttype) 6 d3 d4 a3 a4
     → Recorded (bits_record PRESENTATION v) 6 d4 d5 a4 a5
     → Placed (strans_bytes (said_of t)) (strans_length t) d5 d6 a5 a6
-    → Recorded (xy_record (record { x = z; y = w } ∷ [])) 12 d6 d7 a6 a7
+    → Recorded (xy_record (grid_point_of p ∷ [])) 12 d6 d7 a6 a7
     → Recorded (string_record STRING (padded str)) (4 + (length str + length str % 2)) d7 d8 a7 a8
-    → Placed (text_bytes (text_of b s t x y)) (size_of (strans_length t) n) d1 d8 a1 a8
+    → Placed (text_bytes (text_of b s t p)) (size_of (strans_length t) n) d1 d8 a1 a8
 unfolding text_bytes text_records text_of opt
-text-placed b s t x y z w v n str {d1} {d2} {d3} {d4} {d5} {d6} {d7} {d8} {a1} {a2} {a3} {a4} {a5} {a6} {a7} {a8} i j f g h w1 w2 w3 w4 w5 w6 w7 =
-    let p = subst (λ (k : ℕ). Recorded (bits_record PRESENTATION k) 6 d4 d5 a4 a5) f w4 in
-    let q = subst (λ (k : ℤ). Recorded (xy_record (record { x = x; y = k } ∷ [])) 12 d6 d7 a6 a7) j
-    (subst (λ (k : ℤ). Recorded (xy_record (record { x = k; y = w } ∷ [])) 12 d6 d7 a6 a7) i w6) in
-    let r = subst (λ (l : List ℕ). Recorded (string_record STRING (padded l)) (4 + (n + n % 2)) d7 d8 a7 a8) g
-    (subst (λ (k : ℕ). Recorded (string_record STRING (padded str)) (4 + (k + k % 2)) d7 d8 a7 a8) h w7) in
-    then-rest _ _ w1 (then-rest _ _ w2 (then-rest _ _ w3 (then-rest _ _ p (then-strans (said_of t) _ w5 (then-rest _ _ q (alone _ r))))))
-
--- a point as the machine reads it back
-pub same_point : (b : List ℕ) (s : TextPlaces) (t : Strans) {n : ℕ} {d d' : List ℕ} {at to : ℕ} (x y z w : ℤ) → z ≡ x → w ≡ y
-    → Placed (text_bytes (text_of b s t z w)) n d d' at to → Placed (text_bytes (text_of b s t x y)) n d d' at to
-same_point b s t {n} {d} {d'} {at} {to} x y z w i j p =
-    subst (λ (k : ℤ). Placed (text_bytes (text_of b s t x k)) n d d' at to) j (subst (λ (k : ℤ). Placed (text_bytes (text_of b s t k w)) n d d' at to) i p)
+text-placed b s t p v n str f g h w1 w2 w3 w4 w5 w6 w7 =
+    let w = rw f at w4 in
+    let r = rw (h, g) at w7 in
+    then-rest _ _ w1 (then-rest _ _ w2 (then-rest _ _ w3 (then-rest _ _ w (then-strans (said_of t) _ w5 (then-rest _ _ w6 (alone _ r))))))

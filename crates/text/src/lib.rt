@@ -3,25 +3,23 @@
 
 ghost use Rattle.std.specs.Prelude.{◌≡◌, ◌+◌, ◌*◌, ◌≤◌, length};
 ghost use Rattle.big_endian.specs.Big.{number_at};
+ghost use Rattle.conversion.specs.code.Answer.{made_of};
 ghost use Rattle.conversion.specs.code.Fold.{Spare, run};
 ghost use Rattle.cell.specs.Limits.{max_string_length};
 ghost use Rattle.cell.specs.Write.{write_text};
 ghost use Rattle.block_places.specs.code.Place.{string_end};
 ghost use Rattle.block_places.specs.code.Places.{text_at, TextIn};
-ghost use Rattle.validation.specs.code.Check.{check_of};
-ghost use Rattle.transform.specs.code.Strans.{strans_length};
+ghost use Rattle.transform.specs.code.Strans.{max_strans_length, strans_length};
 ghost use Rattle.records.specs.code.Bytes.{Placed};
 ghost use Rattle.steps.specs.code.Ready.{stopped, ready};
 ghost use Rattle.steps.specs.code.Steps.{max_deviations, Measures, Succeeds, Writes};
 ghost use Rattle.text.specs.code.Text.{size_of, text_bytes, text_length, string_check, after_checks, text_of, ready_of};
 
 use block_places::TextPlaces;
-use conversion::{CoordinateConverter, Entry};
-use coordinate::Pointed;
+use conversion::{CoordinateConverter, DatabasePoint, Entry};
 use refusal::Refusal;
 use steps::{Measured, Written};
-use transform::{Strans, Transform};
-use validation::Check;
+use transform::Strans;
 
 // The longest string of a text.
 const MAX_STRING_LENGTH: usize = 512;
@@ -31,39 +29,24 @@ const FRONT_LENGTH: usize = 22;
 
 const BACK_LENGTH: usize = 16;
 
-// A refusal; or the values of the records that the sheet does not hold as they are, with the entry after them.
+// The values of the records that the sheet does not hold as they are, with the entry after them.
 #[derive(Clone, Copy)]
-pub enum TextValues {
-    Refused {
-        refusal: Refusal,
-    },
-    Ready {
-        strans: Strans,
-        x: i32,
-        y: i32,
-        entry: Entry,
-    },
-}
-
-// How many bytes the string has.
-fn string_length(b: &[u8], at: usize) -> usize
-    requires { at + 2 ≤ length b.now }
-    ensures { result ≡ number_at 2 b.now at }
-{
-    big_endian::u16_at(b, at) as usize
+struct TextValues {
+    strans: Strans,
+    point: DatabasePoint,
+    entry: Entry,
 }
 
 // Whether the string is too long.
-fn check_string(b: &[u8], at: usize) -> Check
+#[tactic(auto, unfolding(crate::specs::code::Text::string_check, conversion::specs::Made::need))]
+fn check_string(b: &[u8], at: usize) -> Result<(), Refusal>
     requires { at + 2 ≤ length b.now }
-    ensures { check_of result ≡ string_check (number_at 2 b.now at) }
+    ensures { made_of result ≡ string_check (number_at 2 b.now at) }
 {
-    if string_length(b, at) > MAX_STRING_LENGTH {
-        return Check::Refused {
-            refusal: Refusal::StringLength,
-        };
+    if block_places::string_length(b, at) > MAX_STRING_LENGTH {
+        return Err(Refusal::StringLength);
     }
-    Check::Passed
+    Ok(())
 }
 
 // The transform and the origin, after the checks.
@@ -72,32 +55,29 @@ fn convert_text(
     b: &[u8],
     text: TextPlaces,
     entry: Entry,
-) -> TextValues
+) -> Result<TextValues, Refusal>
     requires text_in { TextIn b.now text }
     requires spare { Spare 2 entry }
     ensures { ready_of b.now text result ≡ run stopped entry (after_checks converter.policy converter.d (text_at b.now text)) ready }
 {
-    match transform::encode_transformation(text.degrees, text.magnification, text.reflection) {
-        Transform::Refused { refusal } => TextValues::Refused { refusal },
-        Transform::Encoded { strans } => {
-            match coordinate::convert_point(
-                converter,
-                b,
-                text.origin,
-                conversion::ORIGIN_FIELD,
-                0,
-                entry,
-            ) {
-                Pointed::Refused { refusal: refusal2 } => TextValues::Refused { refusal: refusal2 },
-                Pointed::At { x, y, entry: e } => TextValues::Ready {
-                    strans,
-                    x,
-                    y,
-                    entry: e,
-                },
-            }
-        }
-    }
+    let strans = transform::encode_transformation(
+        text.degrees,
+        text.magnification,
+        text.reflection,
+    )?;
+    let origin = coordinate::convert_point(
+        converter,
+        b,
+        text.origin,
+        conversion::ORIGIN_FIELD,
+        0,
+        entry,
+    )?;
+    Ok(TextValues {
+        strans,
+        point: origin.point,
+        entry: origin.entry,
+    })
 }
 
 // The checks and conversions in the order of `write_text_with_converter`, with the text type directly after the layer.
@@ -106,17 +86,24 @@ fn text_values(
     b: &[u8],
     text: TextPlaces,
     entry: Entry,
-) -> TextValues
+) -> Result<TextValues, Refusal>
     requires text_in { TextIn b.now text }
     requires spare { Spare 2 entry }
     ensures { ready_of b.now text result ≡ run stopped entry (write_text converter.policy converter.d (text_at b.now text)) ready }
 {
     let numbers = validation::check_layer_and_type(text.layer, text.texttype);
     let string = check_string(b, text.string);
-    match validation::in_turn(numbers, string) {
-        Check::Refused { refusal } => TextValues::Refused { refusal },
-        Check::Passed => convert_text(converter, b, text, entry),
-    }
+    numbers.and(string)?;
+    convert_text(converter, b, text, entry)
+}
+
+// The bytes of all records, by those of the transform and of the string.
+fn records_length(transform: usize, string: usize) -> usize
+    requires transform_bound { transform ≤ max_strans_length }
+    requires string_bound { string ≤ max_string_length }
+    ensures { result ≡ size_of transform string }
+{
+    FRONT_LENGTH + transform + BACK_LENGTH + string + string % 2
 }
 
 // The first refusal, or the length of the records.
@@ -125,26 +112,17 @@ pub fn measure_text(
     b: &[u8],
     text: TextPlaces,
     entry: Entry,
-) -> Measured
+) -> Result<Measured, Refusal>
     requires text_in { TextIn b.now text }
     requires spare { Spare max_deviations entry }
     ensures { Measures text_bytes entry (write_text converter.policy converter.d (text_at b.now text)) result }
 {
-    match text_values(converter, b, text, entry) {
-        TextValues::Refused { refusal } => Measured::Refused { refusal },
-        TextValues::Ready {
-            strans,
-            x: _,
-            y: _,
-            entry: e,
-        } => {
-            let n = string_length(b, text.string);
-            Measured::Through {
-                length: FRONT_LENGTH + transform::strans_length(strans) + BACK_LENGTH + n + n % 2,
-                entry: e,
-            }
-        }
-    }
+    let values = text_values(converter, b, text, entry)?;
+    let transform = values.strans.length();
+    Ok(Measured {
+        length: records_length(transform, block_places::string_length(b, text.string)),
+        entry: values.entry,
+    })
 }
 
 // Vertical and horizontal presentation as the bits of PRESENTATION.
@@ -155,19 +133,26 @@ fn presentation(vertical: u8, horizontal: u8) -> u16
 }
 
 // TEXT, LAYER, TEXTTYPE, PRESENTATION, the transform, XY and STRING.
-fn put_records(out: &mut [u8], b: &[u8], text: TextPlaces, strans: Strans, x: i32, y: i32) -> usize
+#[tactic(auto, using(crate::proofs::TextLaws::read_long))]
+fn put_records(
+    out: &mut [u8],
+    b: &[u8],
+    text: TextPlaces,
+    strans: Strans,
+    point: DatabasePoint,
+) -> usize
     requires string_in_bounds { string_end b.now text.string ≤ length b.now }
     requires string_bound { number_at 2 b.now text.string ≤ max_string_length }
     requires string_in_bounds_2 { size_of (strans_length strans) (number_at 2 b.now text.string) ≤ length out.old }
-    ensures { Placed (text_bytes (text_of b.now text strans x y)) (size_of (strans_length strans) (number_at 2 b.now text.string)) out.old out.new 0 result }
+    ensures { Placed (text_bytes (text_of b.now text strans point)) (size_of (strans_length strans) (number_at 2 b.now text.string)) out.old out.new 0 result }
 {
     let bits = presentation(text.vertical, text.horizontal);
     let a1 = records::put_empty_at(out, 0, records::TEXT);
     let a2 = records::put_word_at(out, a1, records::LAYER, records::TWO_BYTE, text.layer);
     let a3 = records::put_word_at(out, a2, records::TEXTTYPE, records::TWO_BYTE, text.texttype);
     let a4 = records::put_word_at(out, a3, records::PRESENTATION, records::BIT_ARRAY, bits);
-    let a5 = transform::put_strans_at(out, a4, strans);
-    let a6 = coordinate::put_xy_at(out, a5, x, y);
+    let a5 = strans.put_at(out, a4);
+    let a6 = coordinate::put_xy_at(out, a5, point);
     records::put_string_at(
         out,
         a6,
@@ -190,17 +175,9 @@ pub fn put_text(
     requires text_in_bounds { text_length b.now text ≤ length out.old }
     ensures { Writes text_bytes entry (write_text converter.policy converter.d (text_at b.now text)) 0 out.old out.new result }
 {
-    match convert_text(converter, b, text, entry) {
-        // Never: the text is not refused.
-        TextValues::Refused { refusal: _ } => Written { to: 0, entry },
-        TextValues::Ready {
-            strans,
-            x,
-            y,
-            entry: e,
-        } => Written {
-            to: put_records(out, b, text, strans, x, y),
-            entry: e,
-        },
+    let values = convert_text(converter, b, text, entry).unwrap();
+    Written {
+        to: put_records(out, b, text, values.strans, values.point),
+        entry: values.entry,
     }
 }

@@ -1,3 +1,3 @@
 -- Laws that other crates' proofs cite.
-pub mod TransformLaws
+mod TransformLaws
 pub mod StransLaws

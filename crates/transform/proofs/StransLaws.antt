@@ -9,12 +9,10 @@ use lib.ListN.{length, length-append}
 use lib.Ieee.{Float, eq, le}
 use lib.Ieee.Scale.{finite}
 use Rattle.refusal.specs.declared.Refusal.TheVariants as R
-use Rattle.big_endian.specs.Big.{bytes_of}
-use Rattle.big_endian.proofs.BufferLaws.{nothing-at}
 use Rattle.binary64.specs.Value.{zero64, one64}
-use Rattle.gds_format.specs.declared.Encoding.{Encoding}
-use Rattle.gds_format.specs.declared.Encoding.TheVariants as E
-use Rattle.gds_format.specs.Real8.{encoding, values_of, real8}
+use Rattle.std.specs.Prelude as Code
+use Rattle.std.specs.Prelude.{Ok, Err}
+use Rattle.gds_format.specs.Real8.{Encoding, encoding, values_of, real8}
 use Rattle.conversion.specs.Made.{pure, need, ◌>>=◌, ◌>>◌}
 use Rattle.conversion.proofs.MadeLaws.{Yields, no-yield, made_yields, steps, checked}
 use Rattle.stream.specs.Structure as D
@@ -23,10 +21,10 @@ use Rattle.stream.specs.Records.{bits_record, real_record, opt, strans_bits, str
 use Rattle.stream.proofs.AppendLaws.{strans-append}
 use Rattle.stream.proofs.BytesLaws.{stream-append}
 use Rattle.cell.specs.Write.{is_some, encodable, write_real, write_magnification, write_angle, strans_of, write_transform}
-use Rattle.records.specs.code.Bytes.{Placed, Recorded, opt_bytes, option_of}
-use Rattle.records.proofs.RecordLaws.{placed, then-placed, then-rest, then-opt, length-record}
+use Rattle.records.specs.code.Bytes.{Placed, Recorded, opt_bytes, opt_length}
+use Rattle.records.proofs.RecordLaws.{then-placed, then-rest, then-opt, opt-missing, length-record}
 use Rattle.transform.specs.declared.Strans.{Strans}
-use Rattle.transform.specs.code.Strans.{said_of, strans_bytes, real_length, length_of, strans_length, transform_length}
+use Rattle.transform.specs.code.Strans.{eight_of, said_of, strans_bytes, real_length, length_of, strans_length, transform_length}
 
 -- ---- in front of the rest
 
@@ -42,10 +40,6 @@ then-strans t rs {n} {m} {d} {cur} {last} {at} {to} {end} w v = subst (λ (l : L
 -- its length is a part of the whole
 pub length-strans : (t : Option D.Strans) (rs : List Rec) → length (stream_bytes (strans_records t rs)) ≡ length (strans_bytes t) + length (stream_bytes rs)
 length-strans t rs = ap length (sym (strans-rest t rs)) ∙ length-append (strans_bytes t) (stream_bytes rs)
-
-bytes-of-some : (t : D.Strans) → stream_bytes (bits_record STRANS (strans_bits t.reflection) ∷ opt (real_record MAG) t.magnification (opt (real_record ANGLE) t.angle [])) ≡ strans_bytes (some t)
-unfolding strans_bytes strans_records
-bytes-of-some t = refl
 
 -- a record that may be missing, and nothing after it
 opt_alone : {A : Type 0} (f : A → Rec) (x : Option A) → opt_bytes f x ≡ stream_bytes (opt f x [])
@@ -96,14 +90,13 @@ length-said r s t m a h k =
     go true = length-all (strans_bits r) s t m a h k
     go false = refl
 
-eight-of : (t : Bool) (b : List ℕ) → length b ≡ 8 → Eight t (option_of t b)
-eight-of true b h = (refl, h)
-eight-of false b h = refl
+eight-of : (o : Code.Option ℕ) → Eight (Code.is_some o) (eight_of o)
+eight-of Code.None = refl
+eight-of (Code.Some p) = (refl, refl)
 
 -- what the code's values say
 pub length-strans-of : (s : Strans) → length (strans_bytes (said_of s)) ≡ strans_length s
-length-strans-of s =
-    length-said s.reflection s.scaled s.turned _ _ (eight-of s.scaled (bytes_of 8 s.magnification) refl) (eight-of s.turned (bytes_of 8 s.angle) refl)
+length-strans-of s = length-said s.reflection _ _ _ _ (eight-of s.magnification) (eight-of s.angle)
 
 -- what the definition gives
 real-eight : (x : Float) (v : Option (List ℕ)) → Yields (write_real x) v → Eight true v
@@ -111,8 +104,8 @@ unfolding write_real encodable real8 ◌>>=◌
 real-eight x v y = go (encoding x) y
   where
     go : (e : Encoding) → Yields (encodable (values_of e).bytes >>= λ b. pure (some b)) v → Eight true v
-    go (E.Refused r) y = no-yield y
-    go (E.Encoded r) y = subst (Eight true) (made_yields y) (refl, refl)
+    go (Err r) y = no-yield y
+    go (Ok r) y = subst (Eight true) (made_yields y) (refl, refl)
 
 magnification-eight : (m : Float) (v : Option (List ℕ)) → Yields (write_magnification m) v → Eight (not (eq m one64)) v
 unfolding write_magnification
@@ -146,52 +139,41 @@ module _ (degrees magnification : Float) (reflection : Bool) where
 
 -- ---- with a STRANS or without
 
-module _ (r s t : Bool) where
-  pub length-there : r || s || t ≡ true → length_of r s t ≡ 6 + (real_length s + real_length t)
-  unfolding length_of
-  length-there h = rw h
-
-  pub length_none : r || s || t ≡ false → length_of r s t ≡ 0
-  unfolding length_of
-  length_none h = rw h
-
-is-some : {A : Type 0} (t : Bool) (v : A) → is_some (option_of t v) ≡ t
-is-some true v = refl
-is-some false v = refl
+-- a real's length, by its record
+real-long : (o : Code.Option ℕ) → opt_length 12 o ≡ real_length (Code.is_some o)
+real-long Code.None = refl
+real-long (Code.Some p) = refl
 
 module _ (s : Strans) where
-  abbrev magnification_of : Option (List ℕ)
-  magnification_of = option_of s.scaled (bytes_of 8 s.magnification)
+  abbrev there : Bool
+  there = s.reflection || Code.is_some s.magnification || Code.is_some s.angle
 
-  abbrev angle_of : Option (List ℕ)
-  angle_of = option_of s.turned (bytes_of 8 s.angle)
+  pub length_there : there ≡ true → strans_length s ≡ 6 + (opt_length 12 s.magnification + opt_length 12 s.angle)
+  unfolding length_of
+  length_there h = rw (h, real-long s.magnification, real-long s.angle)
 
-  said-is : said_of s ≡ cond (s.reflection || s.scaled || s.turned) (some (record { reflection = s.reflection; magnification = magnification_of; angle = angle_of })) none
+  abbrev strans : D.Strans
+  strans = record { reflection = s.reflection; magnification = eight_of s.magnification; angle = eight_of s.angle }
+
+  said-is : said_of s ≡ cond there (some strans) none
   unfolding strans_of
   said-is =
-      ap₂ (λ (p q : Bool). cond (s.reflection || p || q) (some (record { reflection = s.reflection; magnification = magnification_of; angle = angle_of })) none)
-      (is-some s.scaled (bytes_of 8 s.magnification)) (is-some s.turned (bytes_of 8 s.angle))
+      ap₂ (λ (p q : Bool). cond (s.reflection || p || q) (some strans) none) (is-there _ _ (eight-of s.magnification)) (is-there _ _ (eight-of s.angle))
 
   -- STRANS, MAG and ANGLE in turn
-  pub strans-placed : (v : ℕ) {d cur next last : List ℕ} {at r1 r2 r3 : ℕ} → s.reflection || s.scaled || s.turned ≡ true → v ≡ strans_bits s.reflection
-      → Recorded (bits_record STRANS v) 6 d cur at r1 → Placed (opt_bytes (real_record MAG) magnification_of) (real_length s.scaled) cur next r1 r2
-      → Placed (opt_bytes (real_record ANGLE) angle_of) (real_length s.turned) next last r2 r3
+  pub strans-placed : (v : ℕ) {d cur next last : List ℕ} {at r1 r2 r3 : ℕ} → there ≡ true → v ≡ strans_bits s.reflection
+      → Recorded (bits_record STRANS v) 6 d cur at r1 → Placed (opt_bytes (real_record MAG) (eight_of s.magnification)) (opt_length 12 s.magnification) cur next r1 r2
+      → Placed (opt_bytes (real_record ANGLE) (eight_of s.angle)) (opt_length 12 s.angle) next last r2 r3
       → Placed (strans_bytes (said_of s)) (strans_length s) d last at r3
-  strans-placed v {d} {cur} {next} {last} {at} {r1} {r2} {r3} h g u w x =
-      let k = said-is ∙ ap (λ (b : Bool). cond b (some (record { reflection = s.reflection; magnification = magnification_of; angle = angle_of })) none) h in
-      let y = then-rest (bits_record STRANS v) _ u (then-opt (real_record MAG) magnification_of _ w (subst (λ (l : List ℕ). Placed l (real_length s.turned) next last r2 r3) (opt_alone (real_record ANGLE) angle_of) x)) in
-      subst (λ (t : Option D.Strans). Placed (strans_bytes t) (strans_length s) d last at r3) (sym k)
-      (subst (λ (n : ℕ). Placed (strans_bytes (some (record { reflection = s.reflection; magnification = magnification_of; angle = angle_of }))) n d last at r3)
-      (sym (length-there s.reflection s.scaled s.turned h))
-      (subst (λ (l : List ℕ). Placed l (6 + (real_length s.scaled + real_length s.turned)) d last at r3) (ap (λ (b : ℕ). stream_bytes (bits_record STRANS b ∷ opt (real_record MAG) magnification_of (opt (real_record ANGLE) angle_of []))) g ∙ bytes-of-some _) y))
+  unfolding length_of strans_bytes strans_records
+  strans-placed v h g u w x =
+      let y = then-rest (bits_record STRANS v) _ u (then-opt (real_record MAG) (eight_of s.magnification) _ w (rw (opt_alone (real_record ANGLE) (eight_of s.angle)) at x)) in
+      rw (said-is, h, ← g, ← real-long s.magnification, ← real-long s.angle) y
 
   -- nothing
-  pub strans-gone : (d : List ℕ) (at : ℕ) → s.reflection || s.scaled || s.turned ≡ false → at + strans_length s ≤ length d → Placed (strans_bytes (said_of s)) (strans_length s) d d at at
-  unfolding strans_bytes strans_records stream_bytes
-  strans-gone d at h g =
-      let k = said-is ∙ ap (λ (b : Bool). cond b (some (record { reflection = s.reflection; magnification = magnification_of; angle = angle_of })) none) h in
-      let l = length_none s.reflection s.scaled s.turned h in
-      subst (λ (t : Option D.Strans). Placed (strans_bytes t) (strans_length s) d d at at) (sym k) (placed (nothing-at d at (omega arith)) l)
+  pub strans-gone : {d : List ℕ} {at : ℕ} → there ≡ false → at + strans_length s ≤ length d → Placed (strans_bytes (said_of s)) (strans_length s) d d at at
+  unfolding length_of strans_bytes strans_records stream_bytes
+  strans-gone {d} {at} h g = rw (said-is, h) (opt-missing (omega (arith, g)))
 
 -- ---- sums of lengths fit
 
@@ -208,4 +190,4 @@ length-small r s t = go (r || s || t) (real-small s) (real-small t)
     go false h k = omega arith
 
 pub strans-short : (s : Strans) → strans_length s ≤ 30
-strans-short s = length-small s.reflection s.scaled s.turned
+strans-short s = length-small _ _ _

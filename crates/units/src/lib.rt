@@ -5,7 +5,7 @@ ghost use Rattle.std.specs.Prelude.{◌≡◌};
 ghost use Rattle.units.specs.Physical.{units_of, physical};
 
 // "a coordinate is an integer with its unit or a double with its unit"
-#[derive(Clone, Copy)]
+#[derive(Clone, Copy, Debug, PartialEq)]
 pub enum Unit {
     Integer { value: i32, units: f64 },
     Float { value: f64, units: f64 },
@@ -17,8 +17,7 @@ impl Unit {
         ensures { result ≡ units_of self }
     {
         match self {
-            Unit::Integer { value: _, units } => units,
-            Unit::Float { value: _, units } => units,
+            Unit::Integer { units, .. } | Unit::Float { units, .. } => units,
         }
     }
 

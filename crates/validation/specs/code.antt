@@ -1,3 +1,2 @@
 -- What serves the contracts of inner functions and the proofs: nothing here need be believed.
-pub mod Call
 pub mod Check

@@ -1,6 +1,8 @@
 -- The head measured: one law for each way out of the code. Assumes nothing.
-use mathlib.Core.Path.{◌≡◌, refl, sym, ap, ◌∙◌, subst}
-use mathlib.Core.Bool.{Bool, true, false, not, ◌&&◌}
+use Rattle.std.specs.Prelude.{Result, Ok, Err, Option as CodeOption}
+use Rattle.std.specs.Prelude as Code
+use mathlib.Core.Path.{◌≡◌, refl, sym, ap, ◌∙◌}
+use mathlib.Core.Bool.{Bool, true, false, ◌&&◌}
 use mathlib.Core.Option.{some}
 use mathlib.Core.List.{List, [], ◌∷◌}
 use Prim.Native.Nat.{ℕ, zero, suc, ◌+◌, ◌*◌, ◌%◌, ◌≤◌}
@@ -8,7 +10,6 @@ use native.Mathlib.Omega.{arith}
 use lib.Dec.{T, leb, leb→le}
 use lib.ListN.{length, length-append}
 use lib.Ieee.Fits.{and_r}
-use borrow.Author.Tests.{not-true, not-false}
 use Rattle.refusal.specs.declared.Refusal.TheVariants as R
 use Rattle.big_endian.proofs.BigLaws.{length-bytes_of}
 use Rattle.sheet.specs.Element.{Head, head_of}
@@ -20,12 +21,9 @@ use Rattle.cell.specs.Stamps.{stamps_fit}
 use Rattle.cell.specs.Names.{name_bytes, is_name}
 use Rattle.records.proofs.RecordLaws.{length-record, length-padded}
 use Rattle.block_places.specs.declared.HeadPlaces.{HeadPlaces}
-use Rattle.forms.specs.declared.HeadForm.{HeadForm}
-use Rattle.forms.specs.declared.HeadForm.TheVariants as F
 use Rattle.block_places.specs.code.Place.{values_from, words_from, string_at}
-use Rattle.block_places.specs.code.Places.{head_at, HeadIn}
+use Rattle.block_places.specs.code.Places.{head_at}
 use Rattle.forms.specs.code.Checks.{HeadRead}
-use Rattle.walk.specs.declared.HeadMeasured.TheVariants as H
 use Rattle.walk.specs.code.Walk.{head_bytes, head_measured}
 
 -- ---- lengths
@@ -61,51 +59,39 @@ name-short s e = go (within 1 (length s) max_name_length) (name_bytes s) e (λ t
     go false b e k = let z : ◌≡◌ {A = ℕ} 0 1 = cc in absurd (omega arith)
 
 -- u is the answer on the name n
-pub head_small : (n : List ℕ) (u : Bool) → u ≡ is_name n → not u ≡ false → 32 + length n + length n % 2 ≤ 64
-head_small n u i g = let l = name-short n (sym i ∙ not-false u g) in omega arith
+pub head_small : (n : List ℕ) (u : Bool) → u ≡ is_name n → u ≡ true → 32 + length n + length n % 2 ≤ 64
+head_small n u i g = let l = name-short n (sym i ∙ g) in omega arith
 
 -- ---- the order of its checks
 
-stamps-off : (h : Head) → stamps_fit h.stamps ≡ false → head_measured (some h) ≡ H.Refused R.Stamp
+stamps-off : (h : Head) → stamps_fit h.stamps ≡ false → head_measured (some h) ≡ Err R.Stamp
 stamps-off h e = rw e
 
-name-off : (h : Head) → stamps_fit h.stamps ≡ true → is_name h.name ≡ false → head_measured (some h) ≡ H.Refused R.Name
+name-off : (h : Head) → stamps_fit h.stamps ≡ true → is_name h.name ≡ false → head_measured (some h) ≡ Err R.Name
 name-off h e f = rw (e, f)
 
-head-on : (h : Head) → stamps_fit h.stamps ≡ true → is_name h.name ≡ true → head_measured (some h) ≡ H.Through (length (head_bytes h))
+head-on : (h : Head) → stamps_fit h.stamps ≡ true → is_name h.name ≡ true → head_measured (some h) ≡ Ok (length (head_bytes h))
 head-on h e f = rw (e, f)
 
 -- ---- the ways out
 
-module _ (b : List ℕ) (r : HeadForm) (w : HeadRead b r) where
-  pub head-ill : r ≡ F.Ill → H.Refused R.Form ≡ head_measured (head_of b)
-  head-ill e = sym (ap head_measured (subst (HeadRead b) e w).form)
+module _ {b : List ℕ} {s : HeadPlaces} (w : HeadRead b (Code.Some s)) {t : Bool} (f : t ≡ stamps_fit (words_from 12 b s.stamps)) where
+  pub stamps-stop : t ≡ false → Err R.Stamp ≡ head_measured (head_of b)
+  unfolding head_at
+  stamps-stop g = sym (ap head_measured w.form ∙ stamps-off (head_at b s) (sym f ∙ g))
 
-  module _ (s : HeadPlaces) (e : r ≡ F.Head s) where
-    pub head_in : HeadIn b s
-    head_in = (subst (HeadRead b) e w).places
+  -- u is the answer on the name n
+  module _ (passed : t ≡ true) {n : List ℕ} (k : n ≡ string_at b s.name) {u : Bool} (i : u ≡ is_name n) where
+    named : is_name (string_at b s.name) ≡ u
+    named = sym (i ∙ ap is_name k)
 
-    held : head_of b ≡ some (head_at b s)
-    held = (subst (HeadRead b) e w).form
+    pub name-stop : u ≡ false → Err R.Name ≡ head_measured (head_of b)
+    unfolding head_at
+    name-stop g = sym (ap head_measured w.form ∙ name-off (head_at b s) (sym f ∙ passed) (named ∙ g))
 
-    -- t is the answer on the stamps
-    module _ (t : Bool) (f : t ≡ stamps_fit (words_from 12 b s.stamps)) where
-      pub stamps-stop : not t ≡ true → H.Refused R.Stamp ≡ head_measured (head_of b)
-      unfolding head_at
-      stamps-stop g = sym (ap head_measured held ∙ stamps-off (head_at b s) (sym f ∙ not-true t g))
-
-      -- u is the answer on the name n
-      module _ (passed : not t ≡ false) (n : List ℕ) (k : n ≡ string_at b s.name) (u : Bool) (i : u ≡ is_name n) where
-        named : is_name (string_at b s.name) ≡ u
-        named = sym (i ∙ ap is_name k)
-
-        pub name-stop : not u ≡ true → H.Refused R.Name ≡ head_measured (head_of b)
-        unfolding head_at
-        name-stop g = sym (ap head_measured held ∙ name-off (head_at b s) (sym f ∙ not-false t passed) (named ∙ not-true u g))
-
-        pub head-through : not u ≡ false → H.Through (32 + length n + length n % 2) ≡ head_measured (head_of b)
-        unfolding head_at
-        head-through g =
-            let l : length (head_bytes (head_at b s)) ≡ 32 + length n + length n % 2
-            = head-length (head_at b s) (length-words 12 b s.stamps) ∙ ap (λ (z : List ℕ). 32 + length z + length z % 2) (sym k) in
-            sym (ap head_measured held ∙ head-on (head_at b s) (sym f ∙ not-false t passed) (named ∙ not-false u g) ∙ ap H.Through l)
+    pub head-through : u ≡ true → Ok (32 + length n + length n % 2) ≡ head_measured (head_of b)
+    unfolding head_at
+    head-through g =
+        let l : length (head_bytes (head_at b s)) ≡ 32 + length n + length n % 2
+        = head-length (head_at b s) (length-words 12 b s.stamps) ∙ ap (λ (z : List ℕ). 32 + length z + length z % 2) (sym k) in
+        sym (ap head_measured w.form ∙ head-on (head_at b s) (sym f ∙ passed) (named ∙ g) ∙ ap Ok l)

@@ -98,7 +98,6 @@ module _ {policy : GdsRoundingPolicy} {d : Float} {i : ℕ} {b : List ℕ} {bs :
 
 pub record Turns (policy : GdsRoundingPolicy) (d : Float) (sheet lead before report : List ℕ) (n : ℕ) (out after : List ℕ) (k to at : ℕ) : Type 0 where
   pub first : 1 ≤ k
-  pub within : k ≤ n
   pub count : n ≡ pair_count sheet
   pub most : n ≤ max_pairs
   pub fit : ElementsFit policy d sheet lead (length before) (length report)
@@ -112,7 +111,6 @@ module _ {policy : GdsRoundingPolicy} {d : Float} {sheet lead before report : Li
       let m = c.most in
       record {
         first = omega arith;
-        within = omega arith;
         count = e;
         most = omega arith;
         fit = f;
@@ -133,16 +131,6 @@ module _ {policy : GdsRoundingPolicy} {d : Float} {sheet lead before report : Li
         output = λ ws es w. let a : f.elements ≡ ws = cc (f.writes, w) in from_zero (same_bytes (ap elements_bytes a) e.0);
         entries = λ ws es w. let a : f.entries ≡ es = cc (f.writes, w) in from_zero (same_bytes (ap (report_with lead) a) e.1);
       }
-
-  pub out-same : length out ≡ length before
-  out-same = t.reached.output.long
-
-  pub report-same : length after ≡ length report
-  report-same = t.reached.entries.long
-
-  -- the index of block k fits its 4 bytes
-  pub index-small : k - 1 < 16384
-  index-small = let a = t.first in let b = t.within in let c = t.most in omega arith
 
   module _ (h : k < n) {b : List ℕ} (is : b ≡ block_of sheet k) where
     abbrev others : List (List ℕ)
@@ -172,7 +160,7 @@ module _ {policy : GdsRoundingPolicy} {d : Float} {sheet lead before report : Li
     part_room : length bytes-here ≤ length part
     part_room = let a = room in simp (length-take, length-drop) (omega arith)
 
-    pub turn-place : to ≤ length out
+    turn-place : to ≤ length out
     turn-place = let a = room in omega arith
 
     pub turn-fits : Fits policy d b (length part)
@@ -185,9 +173,6 @@ module _ {policy : GdsRoundingPolicy} {d : Float} {sheet lead before report : Li
 
       noted : standing r.entry ≡ entries-of here
       noted = ap standing (block_noted here w) ∙ entry-stands (k - 1) (kind_of here.element.body) here.deviations
-
-      pub turn_end : to + r.to ≤ length out
-      turn_end = let a = room in let c = done.count in omega arith
 
       pub turn-report : at + length (report_with lead (standing r.entry)) ≤ length after
       turn-report =
@@ -207,7 +192,6 @@ module _ {policy : GdsRoundingPolicy} {d : Float} {sheet lead before report : Li
           let next = reached-turn policy d (b ∷ others) t.fit.elements t.fit.entries lead before report (k - 1) b others to at out after at_block here (to + r.to) at' whole after' (part_at turn-place done) (same_bytes (ap (report_with lead) noted) v) in
           record {
             first = omega arith;
-            within = omega arith;
             count = t.count;
             most = t.most;
             fit = t.fit;

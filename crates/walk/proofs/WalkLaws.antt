@@ -1,4 +1,5 @@
 -- A turn of the measuring walk and of the writing walk over the blocks. Assumes nothing.
+use Rattle.std.specs.Prelude.{Result as Answered, Ok, Err}
 use mathlib.Core.Path.{◌≡◌, refl, sym, ap, ap₂, ◌∙◌, subst}
 use mathlib.Core.Option.{some}
 use mathlib.Core.List.{List, [], ◌∷◌, ◌++◌}
@@ -20,12 +21,11 @@ use Rattle.conversion.proofs.EntryLaws.{report-append, greatest-append}
 use Rattle.sheet.specs.Element.{Element, kind_of, element_of}
 use Rattle.stream.specs.Structure.{Said}
 use Rattle.stream.specs.Records.{element_bytes, elements_bytes}
+use Rattle.cell.specs.Answer.{refused, accepted}
 use Rattle.cell.specs.Write.{write_element}
 use Rattle.cell.specs.Cell.{Result, stopped, written, in_front, write_blocks}
 use Rattle.cell.proofs.WalkLaws.{walk-ill, walk_refused, walk-made}
 use Rattle.steps.specs.declared.Measured.{Measured}
-use Rattle.steps.specs.declared.Measured.TheVariants as M
-use Rattle.walk.specs.declared.Totals.TheVariants as T
 use Rattle.elements.specs.code.Block.{measured_block}
 use Rattle.elements.proofs.BlockLaws.{Met, ill, refusing, writing, met}
 use Rattle.walk.specs.code.Walk.{totals_from}
@@ -40,24 +40,25 @@ totals-front n k g w es (stopped r j) = refl
 totals-front n k g w es (written ws fs) =
     let a : n + length (element_bytes w ++ elements_bytes ws) ≡ n + length (element_bytes w) + length (elements_bytes ws) = simp length-append (omega arith) in
     let b : k + length (es ++ fs) ≡ k + length es + length fs = simp length-append (omega arith) in
-    ap₂ (λ (x y : ℕ). T.Through x y (greatest_from g (es ++ fs))) a b
-    ∙ ap (λ (z : Float). T.Through (n + length (element_bytes w) + length (elements_bytes ws)) (k + length es + length fs) z) (greatest-append g es fs)
+    ap₂ (λ (x y : ℕ). accepted x y (greatest_from g (es ++ fs))) a b
+    ∙ ap (λ (z : Float). accepted (n + length (element_bytes w) + length (elements_bytes ws)) (k + length es + length fs) z) (greatest-append g es fs)
 
 module _ (policy : GdsRoundingPolicy) (d : Float) (n k : ℕ) (g : Float) (i : ℕ) (b : List ℕ) (bs : List (List ℕ)) where
-  pub totals-stop : (r : Measured) (x : Refusal) → Met policy d i b r → r ≡ M.Refused x → totals_from n k g (write_blocks policy d i (b ∷ bs)) ≡ T.Refused x (suc i)
+  pub totals-stop : (r : Answered Measured Refusal) (x : Refusal) → Met policy d i b r → r ≡ Err x → totals_from n k g (write_blocks policy d i (b ∷ bs)) ≡ refused x (suc i)
   unfolding totals_from
-  totals-stop r x (ill h) e = ap (totals_from n k g) (walk-ill policy d i b bs h) ∙ ap (λ (y : Refusal). T.Refused y (suc i)) (cc)
-  totals-stop r x (refusing a y h f) e = ap (totals_from n k g) (walk_refused policy d i b bs a y h f) ∙ ap (λ (z : Refusal). T.Refused z (suc i)) (cc)
+  totals-stop r x (ill h) e = ap (totals_from n k g) (walk-ill policy d i b bs h) ∙ ap (λ (y : Refusal). refused y (suc i)) (cc)
+  totals-stop r x (refusing a y h f) e = ap (totals_from n k g) (walk_refused policy d i b bs a y h f) ∙ ap (λ (z : Refusal). refused z (suc i)) (cc)
   totals-stop r x (writing a w vs h f) e = let z : ◌≡◌ {A = ℕ} 0 1 = cc in absurd (omega arith)
 
-  pub totals-turn : (r : Measured) (m : ℕ) (e : Entry) → Met policy d i b r → r ≡ M.Through m e
-      → totals_from n k g (write_blocks policy d i (b ∷ bs)) ≡ totals_from (n + m) (k + length (standing e)) (greatest_from g (standing e)) (write_blocks policy d (suc i) bs)
-  totals-turn r m e (ill h) f = let z : ◌≡◌ {A = ℕ} 0 1 = cc in absurd (omega arith)
-  totals-turn r m e (refusing a y h j) f = let z : ◌≡◌ {A = ℕ} 0 1 = cc in absurd (omega arith)
-  totals-turn r m e (writing a w vs h j) f =
-      let p : length (element_bytes w) ≡ m = cc in
-      let q : noted_all (blank_entry i (kind_of a.body)) vs ≡ e = cc in
-      let s : entry_of i (kind_of a.body) vs ≡ standing e = sym (entry-stands i (kind_of a.body) vs) ∙ ap standing q in
+  pub totals-turn : (r : Answered Measured Refusal) (m : Measured) → Met policy d i b r → r ≡ Ok m
+      → totals_from n k g (write_blocks policy d i (b ∷ bs)) ≡ totals_from (n + m.length) (k + length (standing m.entry)) (greatest_from g (standing m.entry)) (write_blocks policy d (suc i) bs)
+  totals-turn r m (ill h) f = let z : ◌≡◌ {A = ℕ} 0 1 = cc in absurd (omega arith)
+  totals-turn r m (refusing a y h j) f = let z : ◌≡◌ {A = ℕ} 0 1 = cc in absurd (omega arith)
+  totals-turn r m (writing a w vs h j) f =
+      let same : ◌≡◌ {A = Measured} (record { length = length (element_bytes w); entry = noted_all (blank_entry i (kind_of a.body)) vs }) m = cc in
+      let p : length (element_bytes w) ≡ m.length = ap (λ (x : Measured). x.length) same in
+      let q : noted_all (blank_entry i (kind_of a.body)) vs ≡ m.entry = ap (λ (x : Measured). x.entry) same in
+      let s : entry_of i (kind_of a.body) vs ≡ standing m.entry = sym (entry-stands i (kind_of a.body) vs) ∙ ap standing q in
       ap (totals_from n k g) (walk-made policy d i b bs a w vs h j)
       ∙ totals-front n k g w (entry_of i (kind_of a.body) vs) (write_blocks policy d (suc i) bs)
       ∙ ap₂ (λ (x : ℕ) (l : List Entry). totals_from (n + x) (k + length l) (greatest_from g l) (write_blocks policy d (suc i) bs)) p s
@@ -84,7 +85,7 @@ module _ (policy : GdsRoundingPolicy) (d : Float) (i : ℕ) (b : List ℕ) (bs :
   by-others e a vs h f (stopped r k) g j = let z : ◌≡◌ {A = ℕ} 0 1 = cc in absurd (omega arith)
   by-others e a vs h f (written rs os) g j = record { element = e; said = a; deviations = vs; rest = rs; others = os; held = h; writes = f; after = g; elements = cc; entries = cc }
 
-  by-met : (r : Measured) → Met policy d i b r → Split policy d i b bs ws es
+  by-met : (r : Answered Measured Refusal) → Met policy d i b r → Split policy d i b bs ws es
   by-met r (ill h) = let k = walk-ill policy d i b bs h in let z : ◌≡◌ {A = ℕ} 0 1 = cc in absurd (omega arith)
   by-met r (refusing e x h f) = let k = walk_refused policy d i b bs e x h f in let z : ◌≡◌ {A = ℕ} 0 1 = cc in absurd (omega arith)
   by-met r (writing e a vs h f) = by-others e a vs h f (write_blocks policy d (suc i) bs) refl (sym (walk-made policy d i b bs e a vs h f) ∙ w)

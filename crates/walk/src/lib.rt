@@ -1,53 +1,30 @@
 // The cell from its 4 on: the head and the blocks in turn, measured, and then written.
 #![tactic(auto)]
 
-ghost use Rattle.std.specs.Prelude.{◌≡◌, ◌+◌, ◌≤◌, T, length};
+ghost use Rattle.std.specs.Prelude.{◌≡◌, ◌+◌, ◌≤◌, length};
 ghost use Rattle.big_endian.specs.Buffer.{WroteAt};
 ghost use Rattle.binary64.specs.Value.{zero64};
 ghost use Rattle.conversion.specs.Entry.{report_with, greatest_from};
 ghost use Rattle.conversion.specs.code.Fold.{standing};
 ghost use Rattle.sheet.specs.Element.{head_of};
-ghost use Rattle.sheet.specs.Blocks.{pairs_fit};
 ghost use Rattle.sheet.specs.Cell.{element_blocks};
 ghost use Rattle.block_places.specs.code.Place.{string_at};
 ghost use Rattle.block_places.specs.code.Places.{head_at, HeadIn};
 ghost use Rattle.cell.specs.Limits.{max_name_length, max_sheet_length};
 ghost use Rattle.cell.specs.Cell.{write_blocks, write_sheet};
 ghost use Rattle.cell.specs.Answer.{answer_of};
-ghost use Rattle.walk.specs.code.Walk.{head_bytes, head_measured, HeadSmall, totals_from, TotalsSmall, ElementsFit, PutsElements, AnswerSmall, StructureFits, PutsStructure};
+ghost use Rattle.walk.specs.code.Walk.{head_bytes, head_measured, HeadSmall, totals_from, ElementsFit, PutsElements, TotalsSmall, AnswerSmall, StructureFits, PutsStructure};
 
 use block_places::HeadPlaces;
-use cell::Answer;
+use cell::{Accepted, CellRefusal};
 use conversion::{CoordinateConverter, Entry};
-use forms::HeadForm;
 use refusal::Refusal;
-use steps::Measured;
+use sheet::Sheet;
 
 // BGNSTR, whose data are the block's twelve numbers, and ENDSTR.
 const BGNSTR_LENGTH: usize = 28;
 
 const ENDSTR_LENGTH: usize = 4;
-
-// The head measured: a refusal, or the bytes of BGNSTR and STRNAME.
-#[derive(Clone, Copy)]
-enum HeadMeasured {
-    Refused { refusal: Refusal },
-    Through { length: usize },
-}
-
-// All elements measured: the first refusal with its block; or how many bytes and entries there are, and the greatest error.
-#[derive(Clone, Copy)]
-enum Totals {
-    Refused {
-        refusal: Refusal,
-        block: usize,
-    },
-    Through {
-        length: usize,
-        entries: usize,
-        greatest: f64,
-    },
-}
 
 // Where what was written ends, in the output and in the report.
 #[derive(Clone, Copy)]
@@ -58,47 +35,33 @@ pub struct Ends {
 
 // ---- measuring
 
-// Block 0: its form, then its stamps, then its name.
-fn measure_head(b: &[u8]) -> HeadMeasured
+// Block 0: its form, then its stamps, then its name. How many bytes BGNSTR and STRNAME have.
+fn measure_head(b: &[u8]) -> Result<usize, Refusal>
     ensures value { result ≡ head_measured (head_of b.now) }
     ensures head_small { HeadSmall result }
 {
-    match forms::head_of(b) {
-        HeadForm::Ill => HeadMeasured::Refused {
-            refusal: Refusal::Form,
-        },
-        HeadForm::Head { places } => {
-            let name = block_places::string_at(b, places.name);
-            let dated = validation::stamps_fit(b, places.stamps);
-            let named = validation::validate_structure_name(name);
-            if !dated {
-                return HeadMeasured::Refused {
-                    refusal: Refusal::Stamp,
-                };
-            }
-            if !named {
-                return HeadMeasured::Refused {
-                    refusal: Refusal::Name,
-                };
-            }
-            HeadMeasured::Through {
-                length: BGNSTR_LENGTH + records::RECORD_HEAD + name.len() + name.len() % 2,
-            }
-        }
+    let places = forms::head_of(b).ok_or(Refusal::Form)?;
+    let name = block_places::string_at(b, places.name);
+    let dated = validation::stamps_fit(b, places.stamps);
+    let named = validation::validate_structure_name(name);
+    if !dated {
+        return Err(Refusal::Stamp);
     }
+    if !named {
+        return Err(Refusal::Name);
+    }
+    Ok(BGNSTR_LENGTH + records::RECORD_HEAD + name.len() + name.len() % 2)
 }
 
 // How many entries stand for an element: one where there is a deviation.
 fn entries_of(entry: Entry) -> usize
     ensures { result ≡ length (standing entry) }
 {
-    if entry.count == 0 {
-        return 0;
-    }
-    1
+    if entry.count == 0 { 0 } else { 1 }
 }
 
 // The greater of g and the magnitude of the entry's error, if it stands.
+#[tactic(auto, unfolding(conversion::specs::Entry::greatest_from))]
 fn greater_error(g: f64, entry: Entry) -> f64
     ensures { result ≡ greatest_from g (standing entry) }
 {
@@ -112,73 +75,47 @@ fn greater_error(g: f64, entry: Entry) -> f64
     g
 }
 
-// Every block after the head, in turn.
-fn measure_elements(converter: CoordinateConverter, sheet: &[u8]) -> Totals
-    requires sheet_len_bound { length sheet.now ≤ max_sheet_length }
-    requires t { T (pairs_fit sheet.now) }
+// Every block after the head, in turn: the first refusal with its block; or how many bytes and entries there are, and the greatest error.
+fn measure_elements(
+    converter: CoordinateConverter,
+    sheet: &Sheet<'_>,
+) -> Result<Accepted, CellRefusal>
+    requires { length sheet.now ≤ max_sheet_length }
     ensures value { result ≡ totals_from 0 0 zero64 (write_blocks converter.policy converter.d 0 (element_blocks sheet.now)) }
     ensures totals_small { TotalsSmall result }
 {
-    let n = big_endian::u32_at(sheet, 0) as usize;
-    let mut k: usize = 1;
     let mut length: usize = 0;
     let mut entries: usize = 0;
     let mut greatest: f64 = 0.0;
-    while k < n {
-        let b = sheet::block(sheet, k);
+    for k in 1..sheet.count() {
+        let b = sheet.block(k);
         let index = k - 1;
-        match elements::measure_element(converter, b, index as u32) {
-            Measured::Refused { refusal } => {
-                return Totals::Refused { refusal, block: k };
-            }
-            Measured::Through { length: m, entry } => {
-                length = length + m;
-                entries = entries + entries_of(entry);
-                greatest = greater_error(greatest, entry);
-            }
-        }
-        k = k + 1;
+        let answer = elements::measure_element(converter, b, index as u32);
+        let measured = answer.map_err(|refusal| CellRefusal { refusal, block: k })?;
+        length += measured.length;
+        entries += entries_of(measured.entry);
+        greatest = greater_error(greatest, measured.entry);
     }
-    Totals::Through {
+    Ok(Accepted {
         length,
         entries,
         greatest,
-    }
+    })
 }
 
 // The cell from its 4 on.
-pub fn measure_sheet(converter: CoordinateConverter, sheet: &[u8]) -> Answer
+pub fn measure_sheet(converter: CoordinateConverter, sheet: &[u8]) -> Result<Accepted, CellRefusal>
     requires { length sheet.now ≤ max_sheet_length }
     ensures value { result ≡ answer_of (write_sheet converter.policy converter.d sheet.now) }
     ensures answer_small { AnswerSmall result }
 {
-    if !sheet::pairs_fit(sheet) {
-        return Answer::Refused {
-            refusal: Refusal::Pairs,
-            block: 0,
-        };
-    }
-    match measure_head(sheet::block(sheet, 0)) {
-        HeadMeasured::Refused { refusal } => Answer::Refused { refusal, block: 0 },
-        HeadMeasured::Through { length: front } => match measure_elements(converter, sheet) {
-            Totals::Refused {
-                refusal: refusal2,
-                block,
-            } => Answer::Refused {
-                refusal: refusal2,
-                block,
-            },
-            Totals::Through {
-                length,
-                entries,
-                greatest,
-            } => Answer::Accepted {
-                length: front + length + ENDSTR_LENGTH,
-                entries,
-                greatest,
-            },
-        },
-    }
+    let sheet = Sheet::new(sheet).ok_or(Refusal::Pairs)?;
+    let front = measure_head(sheet.block(0))?;
+    let totals = measure_elements(converter, &sheet)?;
+    Ok(Accepted {
+        length: front + totals.length + ENDSTR_LENGTH,
+        ..totals
+    })
 }
 
 // ---- writing
@@ -220,25 +157,21 @@ fn put_entry(entry: Entry, lead: &[u8], report: &mut [u8], at: usize) -> usize
 // Every block after the head, in turn, each into the part of the output that starts where the last one ended.
 fn put_elements(
     converter: CoordinateConverter,
-    sheet: &[u8],
+    sheet: &Sheet<'_>,
     lead: &[u8],
     out: &mut [u8],
     report: &mut [u8],
 ) -> Ends
-    requires t { T (pairs_fit sheet.now) }
-    requires elements_fit { ElementsFit converter.policy converter.d sheet.now lead.now (length out.old) (length report.old) }
+    requires { ElementsFit converter.policy converter.d sheet.now lead.now (length out.old) (length report.old) }
     ensures { PutsElements converter.policy converter.d sheet.now lead.now out.old report.old out.new report.new result }
 {
-    let n = big_endian::u32_at(sheet, 0) as usize;
-    let mut next: usize = 1;
     let mut to: usize = 0;
     let mut at: usize = 0;
-    while next < n {
-        let b = sheet::block(sheet, next);
+    for next in 1..sheet.count() {
+        let b = sheet.block(next);
         let written = elements::put_element(converter, b, (next - 1) as u32, &mut out[to..]);
-        to = to + written.to;
+        to += written.to;
         at = put_entry(written.entry, lead, report, at);
-        next = next + 1;
     }
     Ends {
         out: to,
@@ -257,12 +190,14 @@ pub fn put_structure(
     requires { StructureFits converter.policy converter.d sheet.now lead.now (length out.old) (length report.old) }
     ensures { PutsStructure converter.policy converter.d sheet.now lead.now out.old report.old out.new report.new result }
 {
-    let b = sheet::block(sheet, 0);
+    let sheet = Sheet::fitting(sheet);
+    let b = sheet.block(0);
     match forms::head_of(b) {
-        HeadForm::Ill => Ends { out: 0, report: 0 },
-        HeadForm::Head { places } => {
+        // Never: an accepted sheet has a head.
+        None => Ends { out: 0, report: 0 },
+        Some(places) => {
             let start = put_head(b, places, out);
-            let ends = put_elements(converter, sheet, lead, &mut out[start..], report);
+            let ends = put_elements(converter, &sheet, lead, &mut out[start..], report);
             let end = records::put_empty_at(out, start + ends.out, records::ENDSTR);
             Ends {
                 out: end,

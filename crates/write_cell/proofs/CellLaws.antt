@@ -1,4 +1,5 @@
 -- A measured sheet, and what writing it and the cell owe for each way out. Assumes nothing.
+use Rattle.std.specs.Prelude.{Ok, Err}
 use mathlib.Core.Path.{◌≡◌, refl, sym, ap, ◌∙◌, subst}
 use mathlib.Core.Bool.{true}
 use mathlib.Core.List.{List, []}
@@ -17,53 +18,52 @@ use Rattle.conversion.specs.declared.Entry.{Entry}
 use Rattle.conversion.specs.Entry.{report_bytes, greatest_from, entry_length}
 use Rattle.conversion.proofs.EntryLaws.{length-report}
 use Rattle.stream.specs.Structure.{Structure}
-use Rattle.cell.specs.declared.Answer.{Answer}
-use Rattle.cell.specs.declared.Answer.TheVariants as A
+use Rattle.cell.specs.declared.Accepted.{Accepted}
+use Rattle.cell.specs.declared.CellRefusal.{CellRefusal}
+use Rattle.cell.specs.Answer as A
 use Rattle.cell.specs.Cell.{Result, stopped, written, check, write_sheet, cell_structure, structure_bytes, fitting, write_cell, out_after, report_after}
-use Rattle.cell.specs.Answer.{answer_of, values_of}
+use Rattle.cell.specs.Answer.{Answer, answer_of, values_of}
 use Rattle.cell.specs.Draws.{Draws}
 use Rattle.cell.proofs.ResultLaws.{check-on, check-off}
 use Rattle.cell.proofs.DrawsLaws.{demand3}
 use Rattle.cell.proofs.AnswerLaws.{accepted}
 use Rattle.walk.specs.declared.Ends.{Ends}
-use Rattle.walk.specs.code.Walk.{AnswerSmall, StructureFits, PutsStructure}
+use Rattle.walk.specs.code.Walk.{StructureFits, PutsStructure}
 use Rattle.write_cell.specs.Writer.{defined, WritesCell}
 use Rattle.write_cell.specs.code.Sheet.{fitted, WritesSheet}
 
 -- ---- a measured sheet
 
--- so the entries' bytes can be counted
-pub count-few : {a : Answer} {n c : ℕ} {g : Float} → AnswerSmall a → a ≡ A.Accepted n c g → c ≤ 16384
-count-few s i = (subst AnswerSmall i s).1
-
 -- the structure that was measured, by the answer
-pub record Measured (policy : GdsRoundingPolicy) (d : Float) (sheet : List ℕ) (n c : ℕ) (g : Float) : Type 0 where
+pub record Measured (policy : GdsRoundingPolicy) (d : Float) (sheet : List ℕ) (a : Accepted) : Type 0 where
   pub structure : Structure
   pub entries : List Entry
   pub is : write_sheet policy d sheet ≡ written structure entries
-  pub bytes : n ≡ length (structure_bytes structure)
-  pub count : c ≡ length entries
-  pub greatest : g ≡ greatest_from zero64 entries
+  pub said : Ok a ≡ answer_of (written structure entries)
+  pub bytes : a.length ≡ length (structure_bytes structure)
+  pub count : a.entries ≡ length entries
 
-module _ (policy : GdsRoundingPolicy) (d : Float) (sheet : List ℕ) (a : Answer) (m : a ≡ answer_of (write_sheet policy d sheet)) where
-  stopped-is : {r : Refusal} {k : ℕ} → a ≡ A.Refused r k → write_sheet policy d sheet ≡ stopped r k
-  stopped-is {r} {k} i = go (write_sheet policy d sheet) (sym i ∙ m)
+module _ (policy : GdsRoundingPolicy) (d : Float) (sheet : List ℕ) where
+  stopped-is : (a : CellRefusal) → Err a ≡ answer_of (write_sheet policy d sheet) → write_sheet policy d sheet ≡ stopped a.refusal a.block
+  stopped-is a m = go (write_sheet policy d sheet) m
     where
-      go : (x : Result Structure) → A.Refused r k ≡ answer_of x → x ≡ stopped r k
-      go (stopped q j) e = cc
+      go : (x : Result Structure) → Err a ≡ answer_of x → x ≡ stopped a.refusal a.block
+      go (stopped q j) e = let same : ◌≡◌ {A = CellRefusal} (record { refusal = q; block = j }) a = cc in ap (λ (r : CellRefusal). stopped r.refusal r.block) same
       go (written s es) e = let z : ◌≡◌ {A = ℕ} 0 1 = cc in absurd (omega arith)
 
-  pub measured : {n c : ℕ} {g : Float} → a ≡ A.Accepted n c g → Measured policy d sheet n c g
-  measured {n} {c} {g} i = go (write_sheet policy d sheet) refl (sym i ∙ m)
+  pub measured : (a : Accepted) → Ok a ≡ answer_of (write_sheet policy d sheet) → Measured policy d sheet a
+  measured a m = go (write_sheet policy d sheet) refl m
     where
-      go : (x : Result Structure) → write_sheet policy d sheet ≡ x → A.Accepted n c g ≡ answer_of x → Measured policy d sheet n c g
+      go : (x : Result Structure) → write_sheet policy d sheet ≡ x → Ok a ≡ answer_of x → Measured policy d sheet a
       go (stopped r k) f e = let z : ◌≡◌ {A = ℕ} 0 1 = cc in absurd (omega arith)
-      go (written s es) f e = record { structure = s; entries = es; is = f; bytes = cc; count = cc; greatest = cc }
+      go (written s es) f e =
+          let same : ◌≡◌ {A = Accepted} a (record { length = length (structure_bytes s); entries = length es; greatest = greatest_from zero64 es }) = cc in
+          record { structure = s; entries = es; is = f; said = e; bytes = ap (λ (x : Accepted). x.length) same; count = ap (λ (x : Accepted). x.entries) same }
 
-module _ {policy : GdsRoundingPolicy} {d : Float} {sheet : List ℕ} {n c : ℕ} {g : Float} (m : Measured policy d sheet n c g) where
-  pub structure-fits : {out report : ℕ} → n ≤ out → entry_length * c ≤ report → StructureFits policy d sheet [] out report
+module _ {policy : GdsRoundingPolicy} {d : Float} {sheet : List ℕ} {a : Accepted} (m : Measured policy d sheet a) where
+  pub structure-fits : {out report : ℕ} → a.length ≤ out → entry_length * a.entries ≤ report → StructureFits policy d sheet [] out report
   structure-fits o r =
-      let a = m.bytes in
+      let n = m.bytes in
       let b = m.count in
       let l : length (report_bytes m.entries) ≡ length m.entries * 33 = length-report [] m.entries in
       record { structure = m.structure; entries = m.entries; writes = m.is; out-room = omega arith; report-room = omega arith }
@@ -80,46 +80,46 @@ module _ {policy : GdsRoundingPolicy} {d : Float} {sheet : List ℕ} (out report
     entries = p ∙ ap (λ (y : Result Structure). report_after y report) (sym e);
   }
 
-  refuses : (r : Refusal) (k : ℕ) → fitted policy d sheet out report ≡ stopped r k → WritesSheet policy d sheet out report out report (A.Refused r k)
-  refuses r k e = writes (A.Refused r k) out report (stopped r k) e refl refl refl
+  refuses : (r : Refusal) (k : ℕ) → fitted policy d sheet out report ≡ stopped r k → WritesSheet policy d sheet out report out report (A.refused r k)
+  refuses r k e = writes (A.refused r k) out report (stopped r k) e refl refl refl
 
-  pub sheet-refused : (a : Answer) {r : Refusal} {k : ℕ} → a ≡ A.Refused r k → a ≡ answer_of (write_sheet policy d sheet) → WritesSheet policy d sheet out report out report (A.Refused r k)
+  pub sheet-refused : (a : CellRefusal) → Err a ≡ answer_of (write_sheet policy d sheet) → WritesSheet policy d sheet out report out report (Err a)
   unfolding fitting
-  sheet-refused a {r} {k} f m = refuses r k (ap (fitting (length out) (length report)) (stopped-is policy d sheet a m f))
+  sheet-refused a e = refuses a.refusal a.block (ap (fitting (length out) (length report)) (stopped-is policy d sheet a e))
 
-  module _ {n c : ℕ} {g : Float} (m : Measured policy d sheet n c g) where
+  module _ {a : Accepted} (m : Measured policy d sheet a) where
     abbrev bytes : ℕ
     bytes = length (structure_bytes m.structure)
 
     abbrev size : ℕ
     size = entry_length * length m.entries
 
-    pub output-short : length out < n → WritesSheet policy d sheet out report out report (A.Refused R.OutputShort 0)
+    pub output-short : {e : CellRefusal} → length out < a.length → e ≡ record { refusal = R.OutputShort; block = 0 } → WritesSheet policy d sheet out report out report (Err e)
     unfolding fitting
-    output-short l =
-        let a = m.bytes in
-        refuses R.OutputShort 0 (ap (fitting (length out) (length report)) m.is ∙ check-off (leb bytes (length out)) _ _ (lt-leb bytes (length out) (omega arith)))
+    output-short l e =
+        let n = m.bytes in
+        rw e (refuses R.OutputShort 0 (ap (fitting (length out) (length report)) m.is ∙ check-off (leb bytes (length out)) _ _ (lt-leb bytes (length out) (omega arith))))
 
-    module _ (room : n ≤ length out) where
+    module _ (room : a.length ≤ length out) where
       -- 21 has passed
       to-report : fitted policy d sheet out report ≡ check (leb size (length report)) R.ReportShort (written m.structure m.entries)
       unfolding fitting
       to-report =
-          let a = m.bytes in
+          let n = m.bytes in
           ap (fitting (length out) (length report)) m.is ∙ check-on (leb bytes (length out)) _ _ (le-leb bytes (length out) (omega arith))
 
-      pub report-short : length report < entry_length * c → WritesSheet policy d sheet out report out report (A.Refused R.ReportShort 0)
-      report-short l =
+      pub report-short : {e : CellRefusal} → length report < entry_length * a.entries → e ≡ record { refusal = R.ReportShort; block = 0 } → WritesSheet policy d sheet out report out report (Err e)
+      report-short l e =
           let b = m.count in
-          refuses R.ReportShort 0 (to-report ∙ check-off (leb size (length report)) _ _ (lt-leb size (length report) (omega arith)))
+          rw e (refuses R.ReportShort 0 (to-report ∙ check-off (leb size (length report)) _ _ (lt-leb size (length report) (omega arith))))
 
-      pub sheet-written : entry_length * c ≤ length report → {out' report' : List ℕ} {ends : Ends} → PutsStructure policy d sheet [] out report out' report' ends
-          → WritesSheet policy d sheet out report out' report' (A.Accepted n c g)
+      pub sheet-written : entry_length * a.entries ≤ length report → {out' report' : List ℕ} {ends : Ends} → PutsStructure policy d sheet [] out report out' report' ends
+          → WritesSheet policy d sheet out report out' report' (Ok a)
       sheet-written l {out'} {report'} w =
           let b = m.count in
-          writes (A.Accepted n c g) out' report' (written m.structure m.entries)
+          writes (Ok a) out' report' (written m.structure m.entries)
           (to-report ∙ check-on (leb size (length report)) _ _ (le-leb size (length report) (omega arith)))
-          (cc (m.bytes, m.count, m.greatest))
+          m.said
           (w.output m.structure m.entries m.is).out
           (w.entries m.structure m.entries m.is).out
 
@@ -137,11 +137,11 @@ module _ {policy : ℕ} {d : Float} {sheet : List ℕ} (out report : List ℕ) (
         (demand3 policy d sheet out report (values_of r).length (values_of r).entries (values_of r).greatest (subst T (sym fd) tt) all (sym a ∙ accepted r z));
   }
 
-  pub cell-refused : {r : Refusal} → cell_structure policy d sheet ≡ stopped r 0 → WritesCell policy d sheet out report out report (values_of (A.Refused r 0))
+  pub cell-refused : {r : Refusal} → cell_structure policy d sheet ≡ stopped r 0 → WritesCell policy d sheet out report out report (values_of (A.refused r 0))
   unfolding write_cell fitting
   cell-refused {r} e =
       let f : stopped r 0 ≡ defined policy d sheet out report = ap (fitting (length out) (length report)) (sym e) in
-      drawn (A.Refused r 0) out report (ap answer_of f) (ap (λ (y : Result Structure). out_after y out) f) (ap (λ (y : Result Structure). report_after y report) f)
+      drawn (A.refused r 0) out report (ap answer_of f) (ap (λ (y : Result Structure). out_after y out) f) (ap (λ (y : Result Structure). report_after y report) f)
 
   pub cell-written : {rounding : GdsRoundingPolicy} {r : Answer} {out' report' : List ℕ} → cell_structure policy d sheet ≡ write_sheet rounding d sheet
       → WritesSheet rounding d sheet out report out' report' r → WritesCell policy d sheet out report out' report' (values_of r)

@@ -1,6 +1,6 @@
 -- The library from its 23 on, measured: one law for each way out of the code. Assumes nothing.
-use mathlib.Core.Path.{◌≡◌, refl, sym, ap, ap₂, ◌∙◌, subst}
-use mathlib.Core.Bool.{Bool, true, false, not}
+use mathlib.Core.Path.{◌≡◌, refl, sym, ap, ap₂, ◌∙◌}
+use mathlib.Core.Bool.{Bool, true, false}
 use mathlib.Core.Option.{Option, none, some}
 use mathlib.Core.List.{List, [], ◌++◌}
 use Prim.Native.Nat.{ℕ, ◌+◌, ◌≤◌}
@@ -9,7 +9,6 @@ use native.Mathlib.Omega.{arith}
 use lib.Dec.{leb}
 use lib.ListN.{length, length-append}
 use lib.Ieee.{Float}
-use borrow.Author.Tests.{not-true}
 use Rattle.binary64.specs.Value.{zero64}
 use Rattle.refusal.specs.declared.Refusal.{Refusal}
 use Rattle.refusal.specs.declared.Refusal.TheVariants as R
@@ -22,14 +21,12 @@ use Rattle.stream.specs.Record.{stream_bytes}
 use Rattle.stream.specs.Records.{empty_record}
 use Rattle.records.proofs.RecordLaws.{length-first}
 use Rattle.cell.specs.Stamps.{stamps_fit}
-use Rattle.library.specs.declared.LibraryAnswer.{LibraryAnswer}
-use Rattle.library.specs.declared.LibraryAnswer.TheVariants as L
+use Rattle.std.proofs.Common.{Result as Answered, Ok, Err}
+use Rattle.library.specs.Answer as L
 use Rattle.library.specs.Library.{Result, stopped, written, WrittenCell, no_cell, check, write_cells, LibraryFile, max_library_name_length, file_with, file_head_of, write_named, write_headed, write_library_sheet, cells_bytes, file_bytes, entries_in, greatest_in}
-use Rattle.library.specs.Answer.{answer_of}
+use Rattle.library.specs.Answer.{LibraryAnswer, answer_of}
 use Rattle.library.proofs.ResultLaws.{check-on, check-off}
-use Rattle.library_head.specs.declared.HeadParts.{HeadParts}
 use Rattle.library_head.specs.declared.HeadChecked.{HeadChecked}
-use Rattle.library_head.specs.declared.HeadChecked.TheVariants as H
 use Rattle.library_head.specs.code.Head.{units_step, head_step, file_head_at, step_of, HeadRead}
 use Rattle.write_library.specs.code.File.{max_front_length, totals_from}
 
@@ -50,7 +47,7 @@ file-length f ws =
 answer-file : (f : FileHead) (x : Result (List WrittenCell)) → answer_of (file_with f x) ≡ totals_from (length (file_head_bytes f) + 4) 0 zero64 x
 unfolding totals_from
 answer-file f (stopped r c k) = refl
-answer-file f (written ws) = ap₂ (λ (n k : ℕ). L.Accepted n k (greatest_in zero64 ws)) (file-length f ws) (sym (zero-add (entries_in ws)))
+answer-file f (written ws) = ap₂ (λ (n k : ℕ). L.accepted n k (greatest_in zero64 ws)) (file-length f ws) (sym (zero-add (entries_in ws)))
 
 module _ (policy : GdsRoundingPolicy) (d : Float) (s : List ℕ) where
   -- what follows the head's checks, or what they refuse
@@ -84,9 +81,9 @@ module _ (policy : GdsRoundingPolicy) (d : Float) (s : List ℕ) where
       by-stamps true y = by_units y ∙ passed y
       by-stamps false y = refl
 
-  pub pairs-stop : (t : Bool) → t ≡ pairs_fit s → not t ≡ true → L.Refused R.LibraryForm no_cell 0 ≡ answer_of (write_library_sheet policy d s)
+  pub pairs-stop : pairs_fit s ≡ false → L.refused R.LibraryForm no_cell 0 ≡ answer_of (write_library_sheet policy d s)
   unfolding write_library_sheet
-  pairs-stop t e f = sym (ap answer_of (check-off (pairs_fit s) R.LibraryForm _ (sym e ∙ not-true t f)))
+  pairs-stop e = sym (ap answer_of (check-off (pairs_fit s) R.LibraryForm _ e))
 
   -- the pairs fit, and b is block 0
   module _ (p : pairs_fit s ≡ true) {b : List ℕ} (i : b ≡ block_of s 0) where
@@ -98,22 +95,18 @@ module _ (policy : GdsRoundingPolicy) (d : Float) (s : List ℕ) where
         ∙ ap (λ (c : List ℕ). after_head (head_step d (library_head_of c))) (sym i)
 
     -- r is the answer on it
-    module _ {r : HeadChecked} (w : HeadRead d b (library_head_of b) r) where
-      pub as-checked : (y : HeadChecked) → r ≡ y → write_library_sheet policy d s ≡ after_head (step_of b y)
-      as-checked y e = to-head ∙ ap after_head (sym w.step ∙ ap (step_of b) e)
+    pub as-checked : {r : Answered HeadChecked Refusal} → HeadRead d b (library_head_of b) r → write_library_sheet policy d s ≡ after_head (step_of b r)
+    as-checked w = to-head ∙ ap after_head (sym w.step)
 
-      pub head-stop : (x : Refusal) → r ≡ H.Refused x → L.Refused x no_cell 0 ≡ answer_of (write_library_sheet policy d s)
-      head-stop x e = sym (ap answer_of (as-checked (H.Refused x) e))
+    pub head-stop : (x : Refusal) → HeadRead d b (library_head_of b) (Err x) → L.refused x no_cell 0 ≡ answer_of (write_library_sheet policy d s)
+    head-stop x w = sym (ap answer_of (as-checked w))
 
-      module _ {q : HeadParts} {n : ℕ} (e : r ≡ H.Passed q n) where
-        length-is : n ≡ length (file_head_bytes (file_head_at b q))
-        length-is = (subst (HeadRead d b (library_head_of b)) e w).places.count
+    module _ (q : HeadChecked) (w : HeadRead d b (library_head_of b) (Ok q)) where
+      pub front-small : q.length + 4 ≤ max_front_length
+      front-small = let h = w.places.small in omega arith
 
-        pub front-small : n + 4 ≤ max_front_length
-        front-small = let h = (subst (HeadRead d b (library_head_of b)) e w).places.small in omega arith
-
-        pub cells-through : {a : LibraryAnswer} → a ≡ totals_from (n + 4) 0 zero64 (write_cells policy d 0 (cell_sheets s)) → a ≡ answer_of (write_library_sheet policy d s)
-        cells-through f =
-            f
-            ∙ ap (λ (m : ℕ). totals_from (m + 4) 0 zero64 (write_cells policy d 0 (cell_sheets s))) length-is
-            ∙ sym (ap answer_of (as-checked (H.Passed q n) e) ∙ answer-file (file_head_at b q) (write_cells policy d 0 (cell_sheets s)))
+      pub cells-through : {a : LibraryAnswer} → a ≡ totals_from (q.length + 4) 0 zero64 (write_cells policy d 0 (cell_sheets s)) → a ≡ answer_of (write_library_sheet policy d s)
+      cells-through f =
+          f
+          ∙ ap (λ (m : ℕ). totals_from (m + 4) 0 zero64 (write_cells policy d 0 (cell_sheets s))) w.places.count
+          ∙ sym (ap answer_of (as-checked w) ∙ answer-file (file_head_at b q.parts) (write_cells policy d 0 (cell_sheets s)))

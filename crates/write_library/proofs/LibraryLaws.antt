@@ -13,54 +13,58 @@ use Rattle.refusal.specs.declared.Refusal.TheVariants as R
 use Rattle.big_endian.specs.Big.{Bytes}
 use Rattle.binary64.specs.Value.{zero64}
 use Rattle.conversion.specs.declared.GdsRoundingPolicy.{GdsRoundingPolicy}
-use Rattle.sheet.specs.Blocks.{max_pairs}
 use Rattle.walk.specs.declared.Ends.{Ends}
-use Rattle.library.specs.declared.LibraryAnswer.{LibraryAnswer}
-use Rattle.library.specs.declared.LibraryAnswer.TheVariants as L
+use Rattle.std.proofs.Common.{Ok, Err}
+use Rattle.cell.specs.declared.Accepted.{Accepted}
+use Rattle.library.specs.declared.LibraryRefusal.{LibraryRefusal}
+use Rattle.library.specs.Answer as L
 use Rattle.library.specs.Library.{Result, stopped, written, no_cell, check, LibraryFile, write_library_sheet, library_file, file_bytes, library_entry_length, entries_in, greatest_in, fitting, write_library, out_after, report_after}
-use Rattle.library.specs.Answer.{answer_of, values_of}
+use Rattle.library.specs.Answer.{LibraryAnswer, answer_of, values_of}
 use Rattle.library.specs.Draws.{DrawsLibrary}
 use Rattle.library.proofs.ResultLaws.{check-on, check-off}
 use Rattle.library.proofs.AnswerLaws.{accepted}
 use Rattle.library.proofs.FileLaws.{report-length}
 use Rattle.library.proofs.DrawsLaws.{written-draws}
 use Rattle.write_library.specs.Writer.{defined, WritesLibrary}
-use Rattle.write_library.specs.code.File.{FewEntries, FileFits, PutsFile, fitted, WritesFile}
+use Rattle.write_library.specs.code.File.{FileFits, PutsFile, fitted, WritesFile}
 
 -- ---- a measured library
 
--- so the entries' bytes can be counted
-pub count-few : {a : LibraryAnswer} {n c : ℕ} {g : Float} → FewEntries a → a ≡ L.Accepted n c g → c ≤ max_pairs * max_pairs
-count-few s i = subst FewEntries i s
-
 -- the file that was measured, by the answer
-pub record Measured (policy : GdsRoundingPolicy) (d : Float) (sheet : List ℕ) (n c : ℕ) (g : Float) : Type 0 where
+pub record Measured (policy : GdsRoundingPolicy) (d : Float) (sheet : List ℕ) (a : Accepted) : Type 0 where
   pub file : LibraryFile
   pub is : write_library_sheet policy d sheet ≡ written file
-  pub bytes : n ≡ length (file_bytes file)
-  pub count : c ≡ entries_in file.cells
-  pub greatest : g ≡ greatest_in zero64 file.cells
+  pub answer : Ok a ≡ answer_of (written file)
 
-module _ (policy : GdsRoundingPolicy) (d : Float) (sheet : List ℕ) (a : LibraryAnswer) (m : a ≡ answer_of (write_library_sheet policy d sheet)) where
-  stopped-is : {r : Refusal} {i k : ℕ} → a ≡ L.Refused r i k → write_library_sheet policy d sheet ≡ stopped r i k
-  stopped-is {r} {i} {k} e = go (write_library_sheet policy d sheet) (sym e ∙ m)
+module _ (policy : GdsRoundingPolicy) (d : Float) (sheet : List ℕ) where
+  stopped-is : (e : LibraryRefusal) → Err e ≡ answer_of (write_library_sheet policy d sheet) → write_library_sheet policy d sheet ≡ stopped e.refusal e.cell e.block
+  stopped-is e = go (write_library_sheet policy d sheet)
     where
-      go : (x : Result LibraryFile) → L.Refused r i k ≡ answer_of x → x ≡ stopped r i k
-      go (stopped q c j) e = cc
-      go (written l) e = let z : ◌≡◌ {A = ℕ} 0 1 = cc in absurd (omega arith)
+      go : (x : Result LibraryFile) → Err e ≡ answer_of x → x ≡ stopped e.refusal e.cell e.block
+      go (stopped q c j) f = let u : ◌≡◌ {A = LibraryRefusal} (record { refusal = q; cell = c; block = j }) e = cc in ap (λ (v : LibraryRefusal). stopped v.refusal v.cell v.block) u
+      go (written l) f = let z : ◌≡◌ {A = ℕ} 0 1 = cc in absurd (omega arith)
 
-  pub measured : {n c : ℕ} {g : Float} → a ≡ L.Accepted n c g → Measured policy d sheet n c g
-  measured {n} {c} {g} i = go (write_library_sheet policy d sheet) refl (sym i ∙ m)
+  pub measured : (a : Accepted) → Ok a ≡ answer_of (write_library_sheet policy d sheet) → Measured policy d sheet a
+  measured a = go (write_library_sheet policy d sheet) refl
     where
-      go : (x : Result LibraryFile) → write_library_sheet policy d sheet ≡ x → L.Accepted n c g ≡ answer_of x → Measured policy d sheet n c g
+      go : (x : Result LibraryFile) → write_library_sheet policy d sheet ≡ x → Ok a ≡ answer_of x → Measured policy d sheet a
       go (stopped r j k) f e = let z : ◌≡◌ {A = ℕ} 0 1 = cc in absurd (omega arith)
-      go (written l) f e = record { file = l; is = f; bytes = cc; count = cc; greatest = cc }
+      go (written l) f e = record { file = l; is = f; answer = e }
 
-module _ {policy : GdsRoundingPolicy} {d : Float} {sheet : List ℕ} {n c : ℕ} {g : Float} (m : Measured policy d sheet n c g) where
-  pub file-fits : {out report : ℕ} → n ≤ out → library_entry_length * c ≤ report → FileFits policy d sheet out report
+module _ {policy : GdsRoundingPolicy} {d : Float} {sheet : List ℕ} {a : Accepted} (m : Measured policy d sheet a) where
+  told : a ≡ record { length = length (file_bytes m.file); entries = entries_in m.file.cells; greatest = greatest_in zero64 m.file.cells }
+  told = let e = m.answer in cc
+
+  bytes-are : a.length ≡ length (file_bytes m.file)
+  bytes-are = ap (λ (v : Accepted). v.length) told
+
+  count-is : a.entries ≡ entries_in m.file.cells
+  count-is = ap (λ (v : Accepted). v.entries) told
+
+  pub file-fits : {out report : ℕ} → a.length ≤ out → library_entry_length * a.entries ≤ report → FileFits policy d sheet out report
   file-fits o r =
-      let a = m.bytes in
-      let b = m.count in
+      let b = bytes-are in
+      let c = count-is in
       let l = report-length 0 m.file.cells in
       record { file = m.file; writes = m.is; out-room = omega arith; report-room = omega arith }
 
@@ -76,46 +80,46 @@ module _ {policy : GdsRoundingPolicy} {d : Float} {sheet : List ℕ} (out report
     entries = p ∙ ap (λ (y : Result LibraryFile). report_after y report) (sym e);
   }
 
-  refuses : (r : Refusal) (i k : ℕ) → fitted policy d sheet out report ≡ stopped r i k → WritesFile policy d sheet out report out report (L.Refused r i k)
-  refuses r i k e = writes (L.Refused r i k) out report (stopped r i k) e refl refl refl
+  refuses : (r : Refusal) (i k : ℕ) → fitted policy d sheet out report ≡ stopped r i k → WritesFile policy d sheet out report out report (L.refused r i k)
+  refuses r i k e = writes (L.refused r i k) out report (stopped r i k) e refl refl refl
 
-  pub file-refused : (a : LibraryAnswer) {r : Refusal} {i k : ℕ} → a ≡ L.Refused r i k → a ≡ answer_of (write_library_sheet policy d sheet) → WritesFile policy d sheet out report out report (L.Refused r i k)
+  pub file-refused : (e : LibraryRefusal) → Err e ≡ answer_of (write_library_sheet policy d sheet) → WritesFile policy d sheet out report out report (Err e)
   unfolding fitting
-  file-refused a {r} {i} {k} f m = refuses r i k (ap (fitting (length out) (length report)) (stopped-is policy d sheet a m f))
+  file-refused e m = refuses e.refusal e.cell e.block (ap (fitting (length out) (length report)) (stopped-is policy d sheet e m))
 
-  module _ {n c : ℕ} {g : Float} (m : Measured policy d sheet n c g) where
+  module _ {a : Accepted} (m : Measured policy d sheet a) where
     abbrev bytes : ℕ
     bytes = length (file_bytes m.file)
 
     abbrev size : ℕ
     size = library_entry_length * entries_in m.file.cells
 
-    pub output-short : length out < n → WritesFile policy d sheet out report out report (L.Refused R.OutputShort no_cell 0)
+    pub output-short : length out < a.length → WritesFile policy d sheet out report out report (L.refused R.OutputShort no_cell 0)
     unfolding fitting
     output-short l =
-        let a = m.bytes in
+        let b = bytes-are m in
         refuses R.OutputShort no_cell 0 (ap (fitting (length out) (length report)) m.is ∙ check-off (leb bytes (length out)) _ _ (lt-leb bytes (length out) (omega arith)))
 
-    module _ (room : n ≤ length out) where
+    module _ (room : a.length ≤ length out) where
       -- 21 has passed
       to-report : fitted policy d sheet out report ≡ check (leb size (length report)) R.ReportShort (written m.file)
       unfolding fitting
       to-report =
-          let a = m.bytes in
+          let b = bytes-are m in
           ap (fitting (length out) (length report)) m.is ∙ check-on (leb bytes (length out)) _ _ (le-leb bytes (length out) (omega arith))
 
-      pub report-short : length report < library_entry_length * c → WritesFile policy d sheet out report out report (L.Refused R.ReportShort no_cell 0)
+      pub report-short : length report < library_entry_length * a.entries → WritesFile policy d sheet out report out report (L.refused R.ReportShort no_cell 0)
       report-short l =
-          let b = m.count in
+          let c = count-is m in
           refuses R.ReportShort no_cell 0 (to-report ∙ check-off (leb size (length report)) _ _ (lt-leb size (length report) (omega arith)))
 
-      pub file-written : library_entry_length * c ≤ length report → {out' report' : List ℕ} {ends : Ends} → PutsFile policy d sheet out report out' report' ends
-          → WritesFile policy d sheet out report out' report' (L.Accepted n c g)
+      pub file-written : library_entry_length * a.entries ≤ length report → {out' report' : List ℕ} {ends : Ends} → PutsFile policy d sheet out report out' report' ends
+          → WritesFile policy d sheet out report out' report' (Ok a)
       file-written l {out'} {report'} w =
-          let b = m.count in
-          writes (L.Accepted n c g) out' report' (written m.file)
+          let c = count-is m in
+          writes (Ok a) out' report' (written m.file)
           (to-report ∙ check-on (leb size (length report)) _ _ (le-leb size (length report) (omega arith)))
-          (cc (m.bytes, m.count, m.greatest))
+          m.answer
           (w.output m.file m.is).out
           (w.entries m.file m.is).out
 
@@ -133,11 +137,11 @@ module _ {policy : ℕ} {d : Float} {sheet : List ℕ} (out report : List ℕ) (
         (written-draws policy d sheet out report (values_of r).length (values_of r).entries (values_of r).greatest (subst T (sym fd) tt) all (sym a ∙ accepted r z));
   }
 
-  pub library-refused : {r : Refusal} → library_file policy d sheet ≡ stopped r no_cell 0 → WritesLibrary policy d sheet out report out report (values_of (L.Refused r no_cell 0))
+  pub library-refused : {r : Refusal} → library_file policy d sheet ≡ stopped r no_cell 0 → WritesLibrary policy d sheet out report out report (values_of (L.refused r no_cell 0))
   unfolding write_library fitting
   library-refused {r} e =
       let f : stopped r no_cell 0 ≡ defined policy d sheet out report = ap (fitting (length out) (length report)) (sym e) in
-      drawn (L.Refused r no_cell 0) out report (ap answer_of f) (ap (λ (y : Result LibraryFile). out_after y out) f) (ap (λ (y : Result LibraryFile). report_after y report) f)
+      drawn (L.refused r no_cell 0) out report (ap answer_of f) (ap (λ (y : Result LibraryFile). out_after y out) f) (ap (λ (y : Result LibraryFile). report_after y report) f)
 
   pub library-written : {rounding : GdsRoundingPolicy} {r : LibraryAnswer} {out' report' : List ℕ} → library_file policy d sheet ≡ write_library_sheet rounding d sheet
       → WritesFile rounding d sheet out report out' report' r → WritesLibrary policy d sheet out report out' report' (values_of r)

@@ -1,7 +1,7 @@
 -- The file written: its own records, each cell's structure, and ENDLIB. Assumes nothing.
-use mathlib.Core.Path.{◌≡◌, refl, sym, ap, ◌∙◌, subst}
+use mathlib.Core.Path.{◌≡◌, sym, ap, ◌∙◌, subst}
 use mathlib.Core.List.{List, ◌++◌, append-nil}
-use Prim.Native.Nat.{ℕ, ◌+◌, ◌-◌, ◌≤◌}
+use Prim.Native.Nat.{ℕ, ◌+◌, ◌-◌, ◌≤◌, ◌<◌}
 use native.Mathlib.Omega.{arith}
 use lib.Dec.{T}
 use lib.ListN.{length, take, drop, length-take, length-drop}
@@ -9,11 +9,12 @@ use lib.Ieee.{Float}
 use lib.Ieee.Bits.{is_true}
 use Rattle.big_endian.specs.Buffer.{Wrote, WroteAt}
 use Rattle.big_endian.proofs.BufferLaws.{from_zero, part_at, same_bytes, then_at, length_at}
+use Rattle.std.proofs.Common.{Result as Answered, Ok, Err}
 use Rattle.refusal.specs.declared.Refusal.{Refusal}
 use Rattle.conversion.specs.declared.GdsRoundingPolicy.{GdsRoundingPolicy}
-use Rattle.sheet.specs.Blocks.{pair_count, pairs_fit, block_of, offset_of, length_of}
+use Rattle.sheet.specs.Blocks.{pair_count, pairs_fit, block_of}
 use Rattle.sheet.specs.Library.{library_head_of, cell_sheets}
-use Rattle.sheet.proofs.CountLaws.{pairs-count, block_in}
+use Rattle.sheet.proofs.CountLaws.{pairs-count}
 use Rattle.stream.specs.Record.{record_bytes, stream_bytes}
 use Rattle.stream.specs.Records.{empty_record}
 use Rattle.stream.specs.Library.{ENDLIB, FileHead, file_head_bytes, file_end_bytes}
@@ -23,7 +24,6 @@ use Rattle.library.specs.Library.{Result, stopped, written, WrittenCell, write_c
 use Rattle.library.proofs.ResultLaws.{check-passed}
 use Rattle.library_head.specs.declared.HeadParts.{HeadParts}
 use Rattle.library_head.specs.declared.HeadChecked.{HeadChecked}
-use Rattle.library_head.specs.declared.HeadChecked.TheVariants as H
 use Rattle.library_head.specs.code.Head.{file_head_at, HeadIn, step_of, HeadRead}
 use Rattle.write_library.specs.code.File.{CellsFit, PutsCells, FileFits, PutsFile}
 use Rattle.write_library.proofs.FileLaws.{file-length, after_head, as-checked}
@@ -37,37 +37,42 @@ whole : (f : FileHead) (x : Result (List WrittenCell)) (l : LibraryFile) → fil
 whole f (stopped r c k) l e = let z : ◌≡◌ {A = ℕ} 0 1 = cc in absurd (omega arith)
 whole f (written ws) l e = let g : record { head = f; cells = ws } ≡ l = cc in record { head = sym (ap (λ (m : LibraryFile). m.head) g); cells = ap (λ (m : LibraryFile). written m.cells) g }
 
+-- the same of a sheet t with the same bytes
+pub same-fits : {policy : GdsRoundingPolicy} {d : Float} {sheet t : List ℕ} {out report : ℕ} → t ≡ sheet → FileFits policy d sheet out report → FileFits policy d t out report
+same-fits e f = rw e f
+
 module _ {policy : GdsRoundingPolicy} {d : Float} {sheet : List ℕ} (out report : List ℕ) (fit : FileFits policy d sheet (length out) (length report)) where
   pub file-pairs : T (pairs_fit sheet)
   unfolding write_library_sheet
   file-pairs = (check-passed (pairs_fit sheet) _ _ fit.writes).0
 
-  -- what `sheet::block` requires, of block 0
-  pub head-block : (12 ≤ length sheet) × (offset_of sheet 0 + length_of sheet 0 ≤ length sheet)
-  head-block =
-      let m = (pairs-count sheet file-pairs).least in
-      block_in sheet (pair_count sheet) 0 file-pairs refl (omega arith)
+  pub head-block : 0 < pair_count sheet
+  head-block = let m = (pairs-count sheet file-pairs).least in omega arith
 
-  module _ {b : List ℕ} (is : b ≡ block_of sheet 0) {r : HeadChecked} (read : HeadRead d b (library_head_of b) r) where
-    by : (y : HeadChecked) → r ≡ y → write_library_sheet policy d sheet ≡ after_head policy d sheet (step_of b y)
-    by = as-checked policy d sheet (is_true (pairs_fit sheet) file-pairs) is read
+  -- b is block 0, and r the answer on it
+  module _ {b : List ℕ} (is : b ≡ block_of sheet 0) where
+    by : {r : Answered HeadChecked Refusal} → HeadRead d b (library_head_of b) r → write_library_sheet policy d sheet ≡ after_head policy d sheet (step_of b r)
+    by = as-checked policy d sheet (is_true (pairs_fit sheet) file-pairs) is
 
-    pub never-refused : {X : Type 0} {x : Refusal} → r ≡ H.Refused x → X
-    never-refused {X} {x} e =
-        let f = by (H.Refused x) e in
+    pub never-refused : {X : Type 0} {x : Refusal} → HeadRead d b (library_head_of b) (Err x) → X
+    never-refused read =
+        let f = by read in
         let g = fit.writes in
         let z : ◌≡◌ {A = ℕ} 0 1 = cc in
         absurd (omega arith)
 
-    module _ {p : HeadParts} {n : ℕ} (e : r ≡ H.Passed p n) where
+    module _ {q : HeadChecked} (read : HeadRead d b (library_head_of b) (Ok q)) where
+      abbrev p : HeadParts
+      p = q.parts
+
       pub parts_in : HeadIn b p
-      parts_in = (subst (HeadRead d b (library_head_of b)) e read).places.places
+      parts_in = read.places.places
 
       abbrev front : List ℕ
       front = file_head_bytes (file_head_at b p)
 
       parts : Whole (file_head_at b p) (write_cells policy d 0 (cell_sheets sheet)) fit.file
-      parts = whole (file_head_at b p) (write_cells policy d 0 (cell_sheets sheet)) fit.file (sym (by (H.Passed p n) e) ∙ fit.writes)
+      parts = whole (file_head_at b p) (write_cells policy d 0 (cell_sheets sheet)) fit.file (sym (by read) ∙ fit.writes)
 
       abbrev cells : List WrittenCell
       cells = fit.file.cells

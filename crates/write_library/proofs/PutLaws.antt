@@ -1,20 +1,17 @@
 -- Writing the cells in turn, as the code sees it: a cell's number in bytes, and one cell more. Assumes nothing.
 use mathlib.Core.Path.{◌≡◌, sym, ap, ◌∙◌, subst}
-use mathlib.Core.List.{List, [], ◌∷◌, ◌++◌, append-nil}
+use mathlib.Core.List.{List, [], ◌∷◌, ◌++◌}
 use Prim.Native.Nat.{ℕ, suc, ◌+◌, ◌-◌, ◌≤◌, ◌<◌}
 use native.Mathlib.Omega.{arith}
-use lib.Dec.{T}
-use lib.ListN.{length, take, drop, length-append, length-take, length-drop, drop_of_length-le}
+use lib.ListN.{length, take, drop, length-append, length-take, length-drop}
 use lib.Ieee.{Float}
 use Rattle.big_endian.specs.Big.{bytes_of}
-use Rattle.big_endian.specs.Buffer.{over, Wrote, WroteAt}
-use Rattle.big_endian.proofs.BigLaws.{length-bytes_of}
+use Rattle.big_endian.specs.Buffer.{Wrote}
 use Rattle.big_endian.proofs.BufferLaws.{from_zero, part_at, same_bytes}
 use Rattle.big_endian.proofs.RowLaws.{Row, row-start, row-turn, row-end}
 use Rattle.conversion.specs.declared.GdsRoundingPolicy.{GdsRoundingPolicy}
 use Rattle.conversion.specs.Entry.{report_with}
-use Rattle.sheet.specs.Blocks.{max_pairs, pair_count, pairs_fit, block_of, blocks_from}
-use Rattle.sheet.proofs.CountLaws.{pairs-count}
+use Rattle.sheet.specs.Blocks.{max_pairs, pair_count, block_of, blocks_from}
 use Rattle.cell.specs.Cell.{structure_bytes}
 use Rattle.walk.specs.declared.Ends.{Ends}
 use Rattle.walk.specs.code.Walk.{StructureFits, PutsStructure}
@@ -23,20 +20,9 @@ use Rattle.library.proofs.CellsLaws.{Split, split}
 use Rattle.write_library.specs.code.File.{CellsFit, PutsCells}
 use Rattle.write_library.proofs.CellsLaws.{cells-turn, cells-end}
 
--- ---- a cell's number
-
--- in a buffer that it fills
-pub number_put : (v : ℕ) {r : ℕ} {before after : List ℕ} → length before ≡ 4 → WroteAt (bytes_of 4 v) before after 0 r → after ≡ bytes_of 4 v
-unfolding over
-number_put v {r} {before} l w =
-    let n = length-bytes_of 4 v in
-    let e : drop (length (bytes_of 4 v)) before ≡ [] = drop_of_length-le before {i = length (bytes_of 4 v)} (omega arith) in
-    (from_zero w).out ∙ ap (λ (t : List ℕ). bytes_of 4 v ++ t) e ∙ append-nil (bytes_of 4 v)
-
 -- ---- all cells in turn: the state before cell c of m
 
 pub record Turns (policy : GdsRoundingPolicy) (d : Float) (sheet before report : List ℕ) (m : ℕ) (out after : List ℕ) (c to at : ℕ) : Type 0 where
-  pub within : c ≤ m
   pub most : m < max_pairs
   pub fit : CellsFit policy d sheet (length before) (length report)
   pub rest : List WrittenCell
@@ -45,15 +31,11 @@ pub record Turns (policy : GdsRoundingPolicy) (d : Float) (sheet before report :
   pub entries : Row 0 (report_from 0 fit.cells) report at (report_from c rest) after
 
 module _ {policy : GdsRoundingPolicy} {d : Float} {sheet before report : List ℕ} {m : ℕ} where
-  pub turns-start : T (pairs_fit sheet) → m ≡ pair_count sheet - 1 → CellsFit policy d sheet (length before) (length report) → Turns policy d sheet before report m before report 0 0 0
-  turns-start p e f =
-      let c = pairs-count sheet p in
-      let l = c.least in
-      let o = c.most in
+  pub turns-start : m < max_pairs → m ≡ pair_count sheet - 1 → CellsFit policy d sheet (length before) (length report) → Turns policy d sheet before report m before report 0 0 0
+  turns-start l e f =
       let z : m - 0 ≡ pair_count sheet - 1 = omega arith in
       record {
-        within = omega arith;
-        most = omega arith;
+        most = l;
         fit = f;
         rest = f.cells;
         writes = ap (λ (j : ℕ). write_cells policy d 0 (blocks_from j 1 sheet)) z ∙ f.writes;
@@ -179,7 +161,6 @@ module _ {policy : GdsRoundingPolicy} {d : Float} {sheet before report : List �
       turn-next =
           let z : suc c ≡ c + 1 = omega arith in
           record {
-            within = omega arith;
             most = t.most;
             fit = t.fit;
             rest = here.rest;

@@ -1,40 +1,21 @@
--- `array::convert_physical_point` meets its contract: x, and then y. Assumes nothing.
-use mir.Syntax.{w32}
-use mir.Val.{SFits}
-use mir.ValLaws.{to_z-of_z}
+-- `array::convert_physical_point` meets its contract, by the conversions of both coordinates. Assumes nothing.
 use Rattle.conversion.specs.code.Answer.{point_of}
-use Rattle.conversion.specs.Convert.{convert_physical}
-use Rattle.conversion.specs.Field.{x_axis, y_axis}
-use Rattle.conversion.specs.Points.{spot}
-use Rattle.coordinate.specs.code.Coordinate.{GivesValue}
-use Rattle.coordinate.proofs.ValueLaws.{same-values}
-use Rattle.array.proofs.CoordinateLaws.{point-stops, point-stops-at-y, point-made}
-use borrow.Author.Rules.{rules}
+use Rattle.conversion.specs.Array.{write_physical}
+use Rattle.steps.proofs.StepLaws.{handed}
+use Rattle.array.specs.code.Corners.{GivesArrayPoint}
+use Rattle.array.proofs.CoordinateLaws.{point-stops, point-made}
 use Rattle.array.proofs.convert_physical_point.Goals as goal
 
-pub returns-in-Refused : goal.returns-in-Refused
-returns-in-Refused c =
+pub returns-in_err-database : goal.returns-in_err-database
+returns-in_err-database c =
     let a = c.args in
-    let x-ends : GivesValue a.entry (convert_physical a.converter.policy a.converter.d (spot a.field x_axis 0) a.p.x) c.record_quantization.result =
-    same-values (c.convert_physical-a.ensures (spot a.field x_axis 0)) c.record_quantization.ensures in
-    point-stops a.converter.policy a.converter.d a.field (point_of a.p) a.entry c.record_quantization.result x-ends c.in-Refused.refusal c.in-Refused.is
+    let g = a.converter in
+    let p = point_of a.p in
+    let r = c.in_err-database.field-0.0 in
+    handed (GivesArrayPoint a.entry p (write_physical g.policy g.d a.field p)) r c.from_residual.result c.from_residual.ensures.1
+    (point-stops g.policy g.d a.field p a.entry _ _ c.convert_physical-x.ensures c.convert_physical-y.ensures r c.in_err-database.ensures)
 
-pub returns-in-Refused-record_quantization : goal.returns-in-Refused-record_quantization
-returns-in-Refused-record_quantization c =
+pub returns : goal.returns
+returns c =
     let a = c.args in
-    let x-ends : GivesValue a.entry (convert_physical a.converter.policy a.converter.d (spot a.field x_axis 0) a.p.x) c.record_quantization.result =
-    same-values (c.convert_physical-a.ensures (spot a.field x_axis 0)) c.record_quantization.ensures in
-    let y-ends : GivesValue c.in-At.e (convert_physical a.converter.policy a.converter.d (spot a.field y_axis 0) a.p.y) c.record_quantization-in-At.result =
-    same-values (c.convert_physical-b.ensures (spot a.field y_axis 0)) c.record_quantization-in-At.ensures in
-    point-stops-at-y a.converter.policy a.converter.d a.field (point_of a.p) a.entry c.record_quantization.result x-ends c.in-At.x c.in-At.e c.in-At.is c.record_quantization-in-At.result y-ends c.in-Refused-record_quantization.refusal2 c.in-Refused-record_quantization.is
-
-pub returns-in-At-record_quantization : goal.returns-in-At-record_quantization
-returns-in-At-record_quantization c =
-    let a = c.args in
-    let x-ends : GivesValue a.entry (convert_physical a.converter.policy a.converter.d (spot a.field x_axis 0) a.p.x) c.record_quantization.result =
-    same-values (c.convert_physical-a.ensures (spot a.field x_axis 0)) c.record_quantization.ensures in
-    let y-ends : GivesValue c.in-At.e (convert_physical a.converter.policy a.converter.d (spot a.field y_axis 0) a.p.y) c.record_quantization-in-At.result =
-    same-values (c.convert_physical-b.ensures (spot a.field y_axis 0)) c.record_quantization-in-At.ensures in
-    let fx : SFits w32 c.in-At.x = search rules in
-    let fy : SFits w32 c.in-At-record_quantization.y = search rules in
-    point-made a.converter.policy a.converter.d a.field (point_of a.p) a.entry c.record_quantization.result x-ends c.in-At.x c.in-At.e c.in-At.is c.record_quantization-in-At.result y-ends c.in-At-record_quantization.y c.in-At-record_quantization.more c.in-At-record_quantization.is _ _ (to_z-of_z w32 c.in-At.x fx) (to_z-of_z w32 c.in-At-record_quantization.y fy)
+    point-made a.converter.policy a.converter.d a.field (point_of a.p) a.entry _ _ c.convert_physical-x.ensures c.convert_physical-y.ensures c.in_ok-database.database c.in_ok-database.ensures

@@ -2,34 +2,37 @@
 use mathlib.Core.Path.{◌∙◌}
 use Rattle.block_places.specs.code.Place.{spacing_at}
 use Rattle.array.specs.code.Corners.{physical_part, database_part}
-use Rattle.array.proofs.CornerLaws.{column-spacing-stops, row-spacing-stops, spacings-made}
+use Rattle.array.proofs.CornerLaws.{handed-as, column-spacing-stops, row-spacing-stops, spacings-made}
 use Rattle.array.proofs.convert_spacings.Goals as goal
 
-pub returns-in-Refused : goal.returns-in-Refused
-returns-in-Refused c =
+pub returns-in_err-column : goal.returns-in_err-column
+returns-in_err-column c =
     let a = c.args in
-    let v = c.physical_spacing in
+    let g = a.converter in
     let s = a.s in
     let b = a.b.now in
     let o = a.origin in
-    column-spacing-stops a.converter.policy a.converter.d s.columns s.rows s.sine s.cosine (spacing_at b s.column) (spacing_at b s.row) (physical_part o) (database_part o) a.entry v.result v.ensures c.in-Refused.refusal c.in-Refused.is
+    let r = c.in_err-column.field-0.0 in
+    handed-as r c.from_residual.result c.from_residual.ensures.1
+    (column-spacing-stops g.policy g.d s.columns s.rows s.sine s.cosine (spacing_at b s.column) (spacing_at b s.row) (physical_part o) (database_part o) a.entry r c.in_err-column.ensures)
 
-pub returns-in-Refused-physical_spacing : goal.returns-in-Refused-physical_spacing
-returns-in-Refused-physical_spacing c =
+pub returns-in_err-row : goal.returns-in_err-row
+returns-in_err-row c =
     let a = c.args in
-    let v = c.physical_spacing in
+    let g = a.converter in
     let s = a.s in
     let b = a.b.now in
     let o = a.origin in
-    let w = c.physical_spacing-in-At in
-    row-spacing-stops a.converter.policy a.converter.d s.columns s.rows s.sine s.cosine (spacing_at b s.column) (spacing_at b s.row) (physical_part o) (database_part o) a.entry v.result v.ensures c.in-At.column c.in-At.is w.result w.ensures c.in-Refused-physical_spacing.refusal2 c.in-Refused-physical_spacing.is
+    let r = c.in_err-row.field-0.0 in
+    let w = c.from_residual-in_err-row in
+    handed-as r w.result w.ensures.1
+    (row-spacing-stops g.policy g.d s.columns s.rows s.sine s.cosine (spacing_at b s.column) (spacing_at b s.row) (physical_part o) (database_part o) a.entry c.in_ok-column.column c.in_ok-column.ensures r c.in_err-row.ensures)
 
-pub returns-in-At-physical_spacing : goal.returns-in-At-physical_spacing
-returns-in-At-physical_spacing c =
+pub returns : goal.returns
+returns c =
     let a = c.args in
-    let v = c.physical_spacing in
+    let g = a.converter in
     let s = a.s in
     let b = a.b.now in
     let o = a.origin in
-    let w = c.physical_spacing-in-At in
-    c.convert_steps.ensures ∙ spacings-made a.converter.policy a.converter.d s.columns s.rows s.sine s.cosine (spacing_at b s.column) (spacing_at b s.row) (physical_part o) (database_part o) a.entry v.result v.ensures c.in-At.column c.in-At.is w.result w.ensures c.in-At-physical_spacing.row c.in-At-physical_spacing.is _ _ c.turned-a.ensures c.turned-c.ensures
+    c.convert_steps.ensures ∙ spacings-made g.policy g.d s.columns s.rows s.sine s.cosine (spacing_at b s.column) (spacing_at b s.row) (physical_part o) (database_part o) a.entry c.in_ok-column.column c.in_ok-column.ensures c.in_ok-row.row c.in_ok-row.ensures _ _ c.turned-turned_column.ensures c.turned-turned_row.ensures

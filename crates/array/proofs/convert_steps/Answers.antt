@@ -2,28 +2,31 @@
 use mathlib.Core.Path.{◌∙◌}
 use Rattle.conversion.specs.code.Answer.{point_of}
 use Rattle.array.specs.code.Corners.{physical_part, database_part}
-use Rattle.array.proofs.CornerLaws.{column-stops, row-stops, steps-made}
+use Rattle.array.proofs.CornerLaws.{handed-as, column-stops, row-stops, steps-made}
 use Rattle.array.proofs.convert_steps.Goals as goal
 
-pub returns-in-Refused : goal.returns-in-Refused
-returns-in-Refused c =
+pub returns-in_err-column_step : goal.returns-in_err-column_step
+returns-in_err-column_step c =
     let a = c.args in
-    let r = c.convert_physical_point in
+    let g = a.converter in
     let o = a.origin in
-    column-stops a.converter.policy a.converter.d a.s.columns a.s.rows (physical_part o) (database_part o) (point_of a.column) (point_of a.row) a.entry r.result r.ensures c.in-Refused.refusal c.in-Refused.is
+    let r = c.in_err-column_step.field-0.0 in
+    handed-as r c.from_residual.result c.from_residual.ensures.1
+    (column-stops g.policy g.d a.s.columns a.s.rows (physical_part o) (database_part o) (point_of a.column) (point_of a.row) a.entry r c.in_err-column_step.ensures)
 
-pub returns-in-Refused-convert_physical_point : goal.returns-in-Refused-convert_physical_point
-returns-in-Refused-convert_physical_point c =
+pub returns-in_err-row_step : goal.returns-in_err-row_step
+returns-in_err-row_step c =
     let a = c.args in
-    let r = c.convert_physical_point in
+    let g = a.converter in
     let o = a.origin in
-    let s = c.convert_physical_point-in-At in
-    row-stops a.converter.policy a.converter.d a.s.columns a.s.rows (physical_part o) (database_part o) (point_of a.column) (point_of a.row) a.entry r.result r.ensures c.in-At.a c.in-At.e c.in-At.is s.result s.ensures c.in-Refused-convert_physical_point.refusal2 c.in-Refused-convert_physical_point.is
+    let r = c.in_err-row_step.field-0.0 in
+    let w = c.from_residual-in_err-row_step in
+    handed-as r w.result w.ensures.1
+    (row-stops g.policy g.d a.s.columns a.s.rows (physical_part o) (database_part o) (point_of a.column) (point_of a.row) a.entry c.in_ok-column_step.column_step c.in_ok-column_step.ensures r c.in_err-row_step.ensures)
 
-pub returns-in-At-convert_physical_point : goal.returns-in-At-convert_physical_point
-returns-in-At-convert_physical_point c =
+pub returns : goal.returns
+returns c =
     let a = c.args in
-    let r = c.convert_physical_point in
+    let g = a.converter in
     let o = a.origin in
-    let s = c.convert_physical_point-in-At in
-    c.convert_endpoints.ensures ∙ steps-made a.converter.policy a.converter.d a.s.columns a.s.rows (physical_part o) (database_part o) (point_of a.column) (point_of a.row) a.entry r.result r.ensures c.in-At.a c.in-At.e c.in-At.is s.result s.ensures c.in-At-convert_physical_point.b c.in-At-convert_physical_point.more c.in-At-convert_physical_point.is
+    c.convert_endpoints.ensures ∙ steps-made g.policy g.d a.s.columns a.s.rows (physical_part o) (database_part o) (point_of a.column) (point_of a.row) a.entry c.in_ok-column_step.column_step c.in_ok-column_step.ensures c.in_ok-row_step.row_step c.in_ok-row_step.ensures

@@ -1,33 +1,31 @@
 -- `array::physical_point` meets its contract: x, and then y. Assumes nothing.
 use mathlib.Core.Path.{◌≡◌, ap, ◌∙◌}
-use Prim.Native.Nat.{◌+◌}
-use Rattle.conversion.specs.code.Answer.{physical_of}
+use Rattle.conversion.specs.Array.{physical_point}
 use Rattle.conversion.specs.Convert.{physical_value}
-use Rattle.block_places.specs.code.Place.{coordinate_length, unit_at, point_at}
+use Rattle.block_places.specs.code.Place.{point_at}
+use Rattle.steps.proofs.StepLaws.{handed}
+use Rattle.array.specs.code.Corners.{physicals_of}
 use Rattle.array.proofs.CoordinateLaws.{physical-x-refused, physical-y-refused, physical-both}
 use Rattle.array.proofs.physical_point.Goals as goal
 
-pub returns-in-Refused : goal.returns-in-Refused
+pub returns-in_err-x : goal.returns-in_err-x
 unfolding point_at
-returns-in-Refused c =
-    let a = c.args in
-    let x-is : physical_of c.physical_value.result ≡ physical_value (unit_at a.b.now a.at) = c.physical_value.ensures ∙ ap physical_value c.unit_at.ensures in
-    physical-x-refused (point_at a.b.now a.at) c.physical_value.result x-is c.in-Refused.refusal c.in-Refused.is
+returns-in_err-x c =
+    let p = point_at c.args.b.now c.args.at in
+    let r = c.in_err-x.field-0.0 in
+    handed (λ w. physicals_of w ≡ physical_point p) r c.from_residual.result c.from_residual.ensures.1 (physical-x-refused p r (c.in_err-x.ensures ∙ ap physical_value c.unit_at.ensures))
 
-pub returns-in-Refused-physical_value : goal.returns-in-Refused-physical_value
+pub returns-in_err-y : goal.returns-in_err-y
 unfolding point_at
-returns-in-Refused-physical_value c =
-    let a = c.args in
-    let x-is : physical_of c.physical_value.result ≡ physical_value (unit_at a.b.now a.at) = c.physical_value.ensures ∙ ap physical_value c.unit_at.ensures in
-    let y-is : physical_of c.physical_value-in-At.result ≡ physical_value (unit_at a.b.now (a.at + coordinate_length)) =
-    c.physical_value-in-At.ensures ∙ ap physical_value c.unit_at-in-At.ensures in
-    physical-y-refused (point_at a.b.now a.at) c.physical_value.result x-is c.in-At.x c.in-At.is c.physical_value-in-At.result y-is c.in-Refused-physical_value.refusal2 c.in-Refused-physical_value.is
+returns-in_err-y c =
+    let p = point_at c.args.b.now c.args.at in
+    let r = c.in_err-y.field-0.0 in
+    let w = c.from_residual-in_err-y in
+    handed (λ w. physicals_of w ≡ physical_point p) r w.result w.ensures.1
+    (physical-y-refused p c.in_ok-x.x (c.in_ok-x.ensures ∙ ap physical_value c.unit_at.ensures) r (c.in_err-y.ensures ∙ ap physical_value c.unit_at-2.ensures))
 
-pub returns-in-At-physical_value : goal.returns-in-At-physical_value
+pub returns : goal.returns
 unfolding point_at
-returns-in-At-physical_value c =
-    let a = c.args in
-    let x-is : physical_of c.physical_value.result ≡ physical_value (unit_at a.b.now a.at) = c.physical_value.ensures ∙ ap physical_value c.unit_at.ensures in
-    let y-is : physical_of c.physical_value-in-At.result ≡ physical_value (unit_at a.b.now (a.at + coordinate_length)) =
-    c.physical_value-in-At.ensures ∙ ap physical_value c.unit_at-in-At.ensures in
-    physical-both (point_at a.b.now a.at) c.physical_value.result x-is c.in-At.x c.in-At.is c.physical_value-in-At.result y-is c.in-At-physical_value.y c.in-At-physical_value.is
+returns c =
+    let p = point_at c.args.b.now c.args.at in
+    physical-both p c.in_ok-x.x (c.in_ok-x.ensures ∙ ap physical_value c.unit_at.ensures) c.in_ok-y.y (c.in_ok-y.ensures ∙ ap physical_value c.unit_at-2.ensures)

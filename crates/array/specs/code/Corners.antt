@@ -1,27 +1,24 @@
 -- What the code of an array's conversions answers (document 01, "Result two", second paragraph; `write_reference_cell` of write/mod.rs): the definition's steps
 -- run against the element's entry. Assumes nothing.
-use Rattle.std.specs.Prelude.{◌≡◌, true, ℕ, ◌+◌, ◌≤◌, T, ℤ, Float}
+use Rattle.std.specs.Prelude.{◌≡◌, true, ℕ, ◌+◌, ◌≤◌, T, ℤ, Float, Result, Ok, Err}
 use Rattle.std.proofs.Math.Option.{Option}
+use Rattle.refusal.specs.declared.Refusal.{Refusal}
 use Rattle.units.specs.declared.Unit as U
 use Rattle.units.specs.Point.{Point, endpoint}
 use Rattle.conversion.specs.declared.Entry.{Entry}
+use Rattle.conversion.specs.declared.PhysicalPoint.{PhysicalPoint}
 use Rattle.conversion.specs.declared.GdsRoundingPolicy.{GdsRoundingPolicy}
 use Rattle.conversion.specs.Made.{Made, Done, refused, pure, ◌>>=◌, ◌>>◌}
-use Rattle.conversion.specs.code.Answer.{point_of}
+use Rattle.conversion.specs.code.Answer.{point_of, grid_point_of}
 use Rattle.conversion.specs.Array.{ArrayPoints, physical_spacing, turned, write_physical, write_endpoint}
 use Rattle.conversion.specs.Field.{column_spacing_field, row_spacing_field, column_endpoint_field, row_endpoint_field}
 use Rattle.conversion.specs.code.Fold.{run}
 use Rattle.coordinate.specs.declared.Pointed.{Pointed}
-use Rattle.coordinate.specs.declared.Pointed.TheVariants as P
-use Rattle.coordinate.specs.code.Coordinate.{pointed, PointGrown}
-use Rattle.array.specs.declared.Physical.{Physical}
-use Rattle.array.specs.declared.Physical.TheVariants as F
+use Rattle.coordinate.specs.code.Coordinate.{at_point, pointed, PointGrown}
 use Rattle.array.specs.declared.ArrayPoint.{ArrayPoint}
 use Rattle.array.specs.declared.Converted.{Converted}
-use Rattle.array.specs.declared.Converted.TheVariants as C
 use Rattle.array.specs.declared.Corners.{Corners}
 use Rattle.array.specs.declared.Array.{Array}
-use Rattle.array.specs.declared.Array.TheVariants as A
 
 -- the most deviations of an array: its origin, two steps and two endpoints, of two coordinates each
 abbrev pub array_deviations : ℕ
@@ -29,30 +26,33 @@ array_deviations = 10
 
 -- ---- physical values
 
-abbrev pub physicals_of : Physical → Made (Point Float)
-physicals_of (F.Refused r) = refused r
-physicals_of (F.At p) = pure (point_of p)
+abbrev pub physicals_of : Result PhysicalPoint Refusal → Made (Point Float)
+physicals_of (Err r) = refused r
+physicals_of (Ok p) = pure (point_of p)
+
+abbrev pub at_physical : Point Float → PhysicalPoint
+at_physical p = record { x = p.x; y = p.y }
 
 -- ---- a point or a step with its physical values
 
 abbrev pub physical_part : ArrayPoint → Point Float
-physical_part p = record { x = p.px; y = p.py }
+physical_part p = point_of p.physical
 
 abbrev pub database_part : ArrayPoint → Point ℤ
-database_part p = record { x = p.x; y = p.y }
+database_part p = grid_point_of p.database
 
 -- the database values q of the physical values p
-abbrev pub converted : Point Float → Point ℤ → Entry → Converted
-converted p q e = C.At (record { px = p.x; py = p.y; x = q.x; y = q.y }) e
+abbrev pub converted : Point Float → Point ℤ → Entry → Result Converted Refusal
+converted p q e = Ok (record { point = record { physical = at_physical p; database = at_point q }; entry = e })
 
 -- at most two deviations more
-abbrev pub Grown : ℕ → Converted → Type 0
-Grown n (C.Refused r) = T true
-Grown n (C.At p e) = e.count ≤ n + 2
+abbrev pub Grown : ℕ → Result Converted Refusal → Type 0
+Grown n (Err r) = T true
+Grown n (Ok v) = v.entry.count ≤ n + 2
 
 -- the answer is the step's
-pub record GivesArrayPoint (e : Entry) (p : Point Float) (m : Made (Point ℤ)) (r : Converted) : Type 0 where
-  pub is : r ≡ run C.Refused e m (converted p)
+pub record GivesArrayPoint (e : Entry) (p : Point Float) (m : Made (Point ℤ)) (r : Result Converted Refusal) : Type 0 where
+  pub is : r ≡ run Err e m (converted p)
   pub grown : Grown e.count r
 
 -- ---- an endpoint
@@ -62,8 +62,8 @@ abbrev pub end_of : Point ℤ → Point ℤ → ℕ → Point ℤ
 end_of o a n = record { x = endpoint o.x a.x n; y = endpoint o.y a.y n }
 
 -- the answer is the step's refusal, or the endpoint q
-pub record Ends (e : Entry) (q : Point ℤ) (m : Made Done) (r : Pointed) : Type 0 where
-  pub is : r ≡ run P.Refused e m (λ t e'. pointed q e')
+pub record Ends (e : Entry) (q : Point ℤ) (m : Made Done) (r : Result Pointed Refusal) : Type 0 where
+  pub is : r ≡ run Err e m (λ t e'. pointed q e')
   pub grown : PointGrown e.count r
 
 -- ---- the array: its origin and its steps, and the endpoints of its columns and its rows
@@ -71,29 +71,19 @@ pub record Ends (e : Entry) (q : Point ℤ) (m : Made Done) (r : Pointed) : Type
 abbrev pub corners_for : ℕ → ℕ → ArrayPoints → Corners
 corners_for columns rows ps =
     record {
-      x0 = ps.origin.x;
-      y0 = ps.origin.y;
-      ax = ps.column_step.x;
-      ay = ps.column_step.y;
-      bx = ps.row_step.x;
-      by = ps.row_step.y;
-      x1 = endpoint ps.origin.x ps.column_step.x columns;
-      y1 = endpoint ps.origin.y ps.column_step.y columns;
-      x2 = endpoint ps.origin.x ps.row_step.x rows;
-      y2 = endpoint ps.origin.y ps.row_step.y rows;
+      origin = at_point ps.origin;
+      column_step = at_point ps.column_step;
+      row_step = at_point ps.row_step;
+      column_end = at_point (end_of ps.origin ps.column_step columns);
+      row_end = at_point (end_of ps.origin ps.row_step rows);
     }
 
 -- the origin and the steps of them
 abbrev pub steps_of : Corners → ArrayPoints
-steps_of c =
-    record {
-      origin = record { x = c.x0; y = c.y0 };
-      column_step = record { x = c.ax; y = c.ay };
-      row_step = record { x = c.bx; y = c.by };
-    }
+steps_of c = record { origin = grid_point_of c.origin; column_step = grid_point_of c.column_step; row_step = grid_point_of c.row_step }
 
-abbrev pub cornered : ℕ → ℕ → ArrayPoints → Entry → Array
-cornered columns rows ps e = A.Converted (corners_for columns rows ps) e
+abbrev pub cornered : ℕ → ℕ → ArrayPoints → Entry → Result Array Refusal
+cornered columns rows ps e = Ok (record { corners = corners_for columns rows ps; entry = e })
 
 -- ---- the definition of the conversions in parts, each all that is left at its place
 

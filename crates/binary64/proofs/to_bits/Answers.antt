@@ -1,9 +1,7 @@
--- `binary64::to_bits` meets its contract: only a NaN differs from itself. Assumes nothing.
-use Rattle.binary64.proofs.Bits.{differs-nan, same-no-nan}
+-- `binary64::to_bits` meets its contract. Assumes nothing.
+use mathlib.Core.Path.{sym, ◌∙◌}
+use Rattle.binary64.proofs.Bits.{nan-bits}
 use Rattle.binary64.proofs.to_bits.Goals as goal
 
-pub float_to_bits-result : goal.float_to_bits-result
-float_to_bits-result c = same-no-nan c.args.x c.if-x.false
-
-pub returns-then-x : goal.returns-then-x
-returns-then-x c = differs-nan c.args.x c.if-x.true
+pub returns-then-is_nan : goal.returns-then-is_nan
+returns-then-is_nan c = nan-bits c.args.x (sym c.is_nan.ensures.value ∙ c.if-is_nan.true)

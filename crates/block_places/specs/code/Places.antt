@@ -1,5 +1,7 @@
 -- The head and the elements of which places tell, and that the places lie in the block (document 01, "Input", the list; boxes: document 02, request 3; flags and plex numbers: its request 5). Assumes nothing.
 use Rattle.std.specs.Prelude.{◌≡◌, Bool, cond, List, ℕ, ◌+◌, ◌*◌, ◌≤◌, eqb, length, drop, ℤ}
+use Rattle.std.specs.Bool.{then_some}
+use Rattle.std.specs.Prelude as Code
 use Rattle.std.proofs.Math.Option.{Option, none, some}
 use Rattle.std.proofs.Common.{to_z}
 use Rattle.std.specs.Int.{w32}
@@ -93,12 +95,17 @@ body_at b (B.Box s) = box (box_at b s)
 abbrev pub properties_at : List ℕ → PropertyPlaces → List Property
 properties_at b q = properties_from q.count b q.place
 
+-- what the code's `Option` tells, by what its value tells
+abbrev pub option_as : {A B : Type 0} → (A → B) → Code.Option A → Option B
+option_as value Code.None = none
+option_as value (Code.Some a) = some (value a)
+
 -- the options, each of which may be absent
 abbrev pub flags_of : Options → Option ℕ
-flags_of o = cond o.flagged (some o.flags) none
+flags_of o = option_as (λ n. n) o.flags
 
 abbrev pub plex_of : Options → Option ℤ
-plex_of o = cond o.plexed (some (to_z w32 o.plex)) none
+plex_of o = option_as (to_z w32) o.plex
 
 -- ---- the options, after the kind byte: "with both, flags come first"
 
@@ -120,15 +127,12 @@ max_shift = 6
 unfoldable pub shift_of : ℕ → ℕ
 shift_of k = size_if (raised flags_raise k) flags_size + size_if (raised plex_raise k) plex_size
 
--- 0 for what is absent
 unfoldable pub options_at : List ℕ → Options
 options_at b =
     let k = number_at 1 b 0 in
     record {
-      flagged = raised flags_raise k;
-      flags = cond (raised flags_raise k) (number_at 2 b 1) 0;
-      plexed = raised plex_raise k;
-      plex = cond (raised plex_raise k) (number_at 4 b (1 + size_if (raised flags_raise k) flags_size)) 0;
+      flags = then_some (raised flags_raise k) (number_at 2 b 1);
+      plex = then_some (raised plex_raise k) (number_at 4 b (1 + size_if (raised flags_raise k) flags_size));
       shift = shift_of k;
     }
 

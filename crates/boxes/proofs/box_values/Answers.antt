@@ -1,16 +1,16 @@
--- `boxes::box_values` meets its contract: the checks, then the points. Assumes nothing.
-use mathlib.Core.Path.{sym, ap, ◌∙◌}
-use Rattle.validation.specs.code.Check.{check_of}
+-- The checks, then the points. Assumes nothing.
+use Rattle.std.proofs.lemmas.Result.{err_from_is_err_and}
 use Rattle.boxes.proofs.BoxLaws.{checks-stop, checks-pass}
 use Rattle.boxes.proofs.box_values.Goals as goal
 
-pub returns-in-Refused : goal.returns-in-Refused
-returns-in-Refused c =
+pub returns-in_err-check_layer_and_type : goal.returns-in_err-check_layer_and_type
+returns-in_err-check_layer_and_type c =
     let a = c.args in
-    checks-stop a.converter.policy a.converter.d a.b.now a.places a.entry c.in-Refused.refusal (ap check_of (sym c.in-Refused.is) ∙ c.check_layer_and_type.ensures)
+    let e = err_from_is_err_and c.from_residual.result c.from_residual.ensures.1 in
+    rw (e.1, e.2) (checks-stop a.converter.policy a.converter.d a.b.now a.places a.entry _ c.in_err-check_layer_and_type.ensures)
 
-pub returns-in-Passed : goal.returns-in-Passed
-returns-in-Passed c =
+pub returns : goal.returns
+returns c =
     let a = c.args in
-    checks-pass a.converter.policy a.converter.d a.b.now a.places a.entry (ap check_of (sym c.in-Passed.is) ∙ c.check_layer_and_type.ensures)
-    c.count_points.result (c.count_points.ensures a.converter.policy a.converter.d _ _ c.convert_corners.ensures)
+    checks-pass a.converter.policy a.converter.d a.b.now a.places a.entry c.in_ok-check_layer_and_type.ensures
+    _ (c.count_points.ensures a.converter.policy a.converter.d _ _ c.convert_corners.ensures)

@@ -1,68 +1,32 @@
--- `boxes::count_points` meets its contract: the points in turn, of which the first three may be refused. Assumes nothing.
-use mathlib.Core.Path.{◌∙◌}
-use native.Mathlib.Omega.{arith}
-use mir.Syntax.{w32}
-use mir.Val.{SFits}
-use mir.ValLaws.{to_z-of_z}
-use Rattle.boxes.proofs.PointsLaws.{PointRecorded, recorded, same-corners, first-refused, second-refused, third-refused, all-counted}
-use borrow.Author.Rules.{rules}
+-- The points in turn, each of which may be refused. Assumes nothing.
+use Rattle.std.proofs.lemmas.Result.{err_from_is_err_and}
+use Rattle.boxes.proofs.PointsLaws.{first-refused, second-refused, third-refused, fourth-refused, fifth-refused, all-counted}
 use Rattle.boxes.proofs.count_points.Goals as goal
 
--- `first`, `second` and `third` are the first three points, where they are not refused
+pub returns : goal.returns
+returns c = λ policy d p q made. all-counted policy d p q c.args.corners made c.args.entry _ c.in_ok-first.ensures _ c.in_ok-right.ensures _ c.in_ok-second.ensures _ c.in_ok-left.ensures _ c.in_ok-last.ensures
 
-pub count_last-requires : goal.count_last-requires
-count_last-requires c =
-    let cs = c.args.corners in
-    let g = c.in-At in
-    let h = c.in-At-record_point in
-    let k = c.in-At-record_point-2 in
-    let first : PointRecorded 0 cs.x1 cs.y1 c.args.entry g.x1 g.y1 g.e0 = recorded 0 c.args.entry cs.x1 cs.y1 c.record_point.result c.record_point.ensures g.x1 g.y1 g.e0 g.is in
-    let second : PointRecorded 1 cs.x2 cs.y1 g.e0 h.x2 h.y h.e1 = recorded 1 g.e0 cs.x2 cs.y1 c.record_point-in-At.result c.record_point-in-At.ensures h.x2 h.y h.e1 h.is in
-    let third : PointRecorded 2 cs.x2 cs.y2 h.e1 k.x k.y2 k.e2 = recorded 2 h.e1 cs.x2 cs.y2 c.record_point-in-At-record_point.result c.record_point-in-At-record_point.ensures k.x k.y2 k.e2 k.is in
-    let grown1 = first.counted.grown in
-    let grown2 = second.counted.grown in
-    let grown3 = third.counted.grown in
-    let spare = c.requires in
-    record { accepted = (first.accepted_x, (first.accepted_y, third.accepted_y)); spare = omega arith }
+pub returns-in_err-first : goal.returns-in_err-first
+returns-in_err-first c =
+    let e = err_from_is_err_and c.from_residual.result c.from_residual.ensures.1 in
+    λ policy d p q made. rw (e.1, e.2) (first-refused policy d p q c.args.corners made c.args.entry _ c.in_err-first.ensures)
 
--- ---- each way out
+pub returns-in_err-right : goal.returns-in_err-right
+returns-in_err-right c =
+    let e = err_from_is_err_and c.from_residual-in_err-right.result c.from_residual-in_err-right.ensures.1 in
+    λ policy d p q made. rw (e.1, e.2) (second-refused policy d p q c.args.corners made c.args.entry _ c.in_ok-first.ensures _ c.in_err-right.ensures)
 
-pub returns-in-Refused : goal.returns-in-Refused
-returns-in-Refused c =
-    let a = c.args in
-    λ policy d p q made. first-refused policy d p q a.corners made a.entry c.record_point.result c.record_point.ensures c.in-Refused.refusal c.in-Refused.is
+pub returns-in_err-second : goal.returns-in_err-second
+returns-in_err-second c =
+    let e = err_from_is_err_and c.from_residual-in_err-second.result c.from_residual-in_err-second.ensures.1 in
+    λ policy d p q made. rw (e.1, e.2) (third-refused policy d p q c.args.corners made c.args.entry _ c.in_ok-first.ensures _ c.in_ok-right.ensures _ c.in_err-second.ensures)
 
-pub returns-in-Refused-record_point : goal.returns-in-Refused-record_point
-returns-in-Refused-record_point c =
-    let cs = c.args.corners in
-    let g = c.in-At in
-    let first : PointRecorded 0 cs.x1 cs.y1 c.args.entry g.x1 g.y1 g.e0 = recorded 0 c.args.entry cs.x1 cs.y1 c.record_point.result c.record_point.ensures g.x1 g.y1 g.e0 g.is in
-    let r = c.record_point-in-At in
-    λ policy d p q made. second-refused policy d p q cs made c.args.entry g.e0 first.counted r.result r.ensures c.in-Refused-record_point.refusal2 c.in-Refused-record_point.is
+pub returns-in_err-left : goal.returns-in_err-left
+returns-in_err-left c =
+    let e = err_from_is_err_and c.from_residual-in_err-left.result c.from_residual-in_err-left.ensures.1 in
+    λ policy d p q made. rw (e.1, e.2) (fourth-refused policy d p q c.args.corners made c.args.entry _ c.in_ok-first.ensures _ c.in_ok-right.ensures _ c.in_ok-second.ensures _ c.in_err-left.ensures)
 
-pub returns-in-Refused-record_point-2 : goal.returns-in-Refused-record_point-2
-returns-in-Refused-record_point-2 c =
-    let cs = c.args.corners in
-    let g = c.in-At in
-    let h = c.in-At-record_point in
-    let first : PointRecorded 0 cs.x1 cs.y1 c.args.entry g.x1 g.y1 g.e0 = recorded 0 c.args.entry cs.x1 cs.y1 c.record_point.result c.record_point.ensures g.x1 g.y1 g.e0 g.is in
-    let second : PointRecorded 1 cs.x2 cs.y1 g.e0 h.x2 h.y h.e1 = recorded 1 g.e0 cs.x2 cs.y1 c.record_point-in-At.result c.record_point-in-At.ensures h.x2 h.y h.e1 h.is in
-    let r = c.record_point-in-At-record_point in
-    λ policy d p q made. third-refused policy d p q cs made c.args.entry g.e0 first.counted h.e1 second.counted r.result r.ensures c.in-Refused-record_point-2.refusal3 c.in-Refused-record_point-2.is
-
-pub returns-in-At-record_point-2 : goal.returns-in-At-record_point-2
-returns-in-At-record_point-2 c =
-    let cs = c.args.corners in
-    let g = c.in-At in
-    let h = c.in-At-record_point in
-    let k = c.in-At-record_point-2 in
-    let first : PointRecorded 0 cs.x1 cs.y1 c.args.entry g.x1 g.y1 g.e0 = recorded 0 c.args.entry cs.x1 cs.y1 c.record_point.result c.record_point.ensures g.x1 g.y1 g.e0 g.is in
-    let second : PointRecorded 1 cs.x2 cs.y1 g.e0 h.x2 h.y h.e1 = recorded 1 g.e0 cs.x2 cs.y1 c.record_point-in-At.result c.record_point-in-At.ensures h.x2 h.y h.e1 h.is in
-    let third : PointRecorded 2 cs.x2 cs.y2 h.e1 k.x k.y2 k.e2 = recorded 2 h.e1 cs.x2 cs.y2 c.record_point-in-At-record_point.result c.record_point-in-At-record_point.ensures k.x k.y2 k.e2 k.is in
-    let fx1 : SFits w32 g.x1 = search rules in
-    let fy1 : SFits w32 g.y1 = search rules in
-    let fx2 : SFits w32 h.x2 = search rules in
-    let fy2 : SFits w32 k.y2 = search rules in
-    λ policy d p q made. same-corners _ (to_z-of_z w32 g.x1 fx1 ∙ first.x) (to_z-of_z w32 g.y1 fy1 ∙ first.y) (to_z-of_z w32 h.x2 fx2 ∙ second.x) (to_z-of_z w32 k.y2 fy2 ∙ third.y)
-    ∙ all-counted policy d p q cs made c.args.entry g.e0 first.counted h.e1 second.counted k.e2 c.count_last.result
-    third.counted c.count_last.ensures
+pub returns-in_err-last : goal.returns-in_err-last
+returns-in_err-last c =
+    let e = err_from_is_err_and c.from_residual-in_err-last.result c.from_residual-in_err-last.ensures.1 in
+    λ policy d p q made. rw (e.1, e.2) (fifth-refused policy d p q c.args.corners made c.args.entry _ c.in_ok-first.ensures _ c.in_ok-right.ensures _ c.in_ok-second.ensures _ c.in_ok-left.ensures _ c.in_err-last.ensures)

@@ -1,20 +1,27 @@
--- `conversion::caller_policy` meets its contract. Assumes nothing.
+-- `conversion::caller_policy` meets its contract: the policy by its number, and then the database unit. Assumes nothing.
 use mathlib.Core.Path.{sym, ◌∙◌}
-use borrow.Author.Rules.{rules}
-use Rattle.conversion.proofs.PolicyLaws.{policy-none, caller-unnamed, caller-with, caller-unit}
+use lib.Ieee.Positive.{positive}
+use Rattle.refusal.specs.declared.Refusal.TheVariants as R
+use Rattle.conversion.specs.Made.{pure}
+use Rattle.conversion.specs.Policy.{policy_of, named, caller_policy}
+use Rattle.conversion.proofs.MadeLaws.{need-on, need-off, refused-on, pure-on}
+use Rattle.conversion.proofs.CodeLaws.{handed-on}
 use Rattle.conversion.proofs.caller_policy.Goals as goal
 
-pub returns-then-n-gt-MAX_POLICY : goal.returns-then-n-gt-MAX_POLICY
-returns-then-n-gt-MAX_POLICY c = let a = c.args in sym (caller-unnamed a.n a.d (policy-none a.n c.if-n-gt-MAX_POLICY.true))
+pub returns-in_err-policy : goal.returns-in_err-policy
+unfolding caller_policy
+returns-in_err-policy c =
+    let r = c.in_err-policy.field-0.0 in
+    handed-on r c.from_residual.result c.from_residual.ensures.1 ∙ refused-on (named (policy_of c.args.n)) _ r c.in_err-policy.ensures
 
 pub returns-then-is_positive : goal.returns-then-is_positive
+unfolding caller_policy
 returns-then-is_positive c =
-    let a = c.args in
-    let p = c.policy_of-policy in
-    sym (caller-with a.n a.d p.result p.ensures (sym c.is_positive.ensures ∙ c.if-is_positive.true))
+    let p = c.in_ok-policy.policy in
+    sym (need-on (positive c.args.d) R.DatabaseUnit (pure p) (sym c.is_positive.ensures ∙ c.if-is_positive.true)) ∙ pure-on (named (policy_of c.args.n)) _ p c.in_ok-policy.ensures
 
-pub returns : goal.returns
-returns c =
-    let a = c.args in
-    let p = c.policy_of-policy in
-    sym (caller-unit a.n a.d p.result p.ensures (sym c.is_positive.ensures ∙ c.if-is_positive.false))
+pub returns-else-is_positive : goal.returns-else-is_positive
+unfolding caller_policy
+returns-else-is_positive c =
+    let p = c.in_ok-policy.policy in
+    sym (need-off (positive c.args.d) R.DatabaseUnit (pure p) (sym c.is_positive.ensures ∙ c.if-is_positive.false)) ∙ pure-on (named (policy_of c.args.n)) _ p c.in_ok-policy.ensures

@@ -3,7 +3,6 @@ use mathlib.Core.Path.{ap}
 use mir.Syntax.{w32}
 use mir.ValLaws.{to_z-of_z}
 use Rattle.conversion.specs.Convert.{difference}
-use borrow.Author.Rules.{rules}
 use Rattle.conversion.proofs.difference.Goals as goal
 
 pub returns : goal.returns

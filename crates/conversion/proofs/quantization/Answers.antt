@@ -7,7 +7,6 @@ use Rattle.binary64.specs.Value.{abs}
 use Rattle.binary64.specs.Step.{one_step}
 use Rattle.conversion.specs.Convert.{difference}
 use Rattle.conversion.proofs.DeviationLaws.{counts-level, counts-beside, counts_some}
-use borrow.Author.Rules.{rules}
 use Rattle.conversion.proofs.quantization.Goals as goal
 
 pub returns-then-within_one_ulp : goal.returns-then-within_one_ulp

@@ -2,7 +2,6 @@
 use mathlib.Core.Path.{ap₂}
 use lib.Ieee.{Float}
 use Rattle.conversion.specs.Array.{turned}
-use borrow.Author.Rules.{rules}
 use Rattle.conversion.proofs.turned.Goals as goal
 
 pub returns : goal.returns

@@ -12,6 +12,10 @@ use Rattle.conversion.specs.Made.{Made, refused, made}
 abbrev pub blank_entry : ℕ → ℕ → Entry
 blank_entry i k = record { index = i; kind = k; field = 0; axis = 0; place = 0; count = 0; physical = of_bits binary64 0; database = pos 0; error = of_bits binary64 0 }
 
+-- the entry e with the representative v
+abbrev pub represented_by : Entry → Deviation → Entry
+represented_by e v = record { index = e.index; kind = e.kind; field = v.field; axis = v.axis; place = v.place; count = e.count; physical = v.physical; database = v.database; error = v.error }
+
 -- the bytes of `place_bytes`
 abbrev pub place_length : ℕ
 place_length = 13

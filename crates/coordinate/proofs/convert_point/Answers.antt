@@ -1,7 +1,6 @@
 -- `coordinate::convert_point` meets its contract, by the conversions of both coordinates. Assumes nothing.
 use Rattle.block_places.specs.code.Place.{point_at}
 use Rattle.coordinate.proofs.ValueLaws.{point-recorded}
-use borrow.Author.Rules.{rules}
 use Rattle.coordinate.proofs.convert_point.Goals as goal
 
 pub returns : goal.returns

@@ -1,38 +1,37 @@
 -- `elements::measure_parts` meets its contract: the body's refusal, then the properties', then both lengths.
 -- Assumes nothing.
+use mathlib.Core.Path.{ap, ◌∙◌}
+use Prim.Native.Nat.{ℕ}
 use native.Mathlib.Omega.{arith}
+use Rattle.std.proofs.lemmas.Result.{err_from_is_err_and}
+use Rattle.steps.specs.code.Steps.{through}
 use Rattle.elements.proofs.PartLaws.{body_refused, tail-refused, both-measured, both_small}
 use Rattle.elements.proofs.measure_parts.Goals as goal
 
-pub overflow_add-size : goal.overflow_add-size
-overflow_add-size c =
+pub overflow_add-length : goal.overflow_add-length
+overflow_add-length c =
     let a = c.args in
-    let k =
-    both_small a.converter.policy a.converter.d a.b.now a.body a.properties a.entry c.measure_body.result c.measure_body.ensures c.in-Through.length c.in-Through.e c.in-Through.is
-    c.measure_tail.result c.measure_tail.ensures c.requires.element_in c.in-Through-measure_tail.more c.in-Through-measure_tail.e2 c.in-Through-measure_tail.is in
+    let k = both_small a.converter.policy a.converter.d a.b.now a.body a.properties a.entry _ c.in_ok-front.ensures _ c.in_ok-tail.ensures c.requires.element_in in
     let l = c.requires.b_len_bound in
     omega arith
 
-pub returns-in-Refused : goal.returns-in-Refused
-returns-in-Refused c =
+pub returns-in_err-front : goal.returns-in_err-front
+returns-in_err-front c =
     let a = c.args in
-    record { measures = body_refused a.converter.policy a.converter.d a.b.now a.body a.properties a.entry c.measure_body.result c.measure_body.ensures c.in-Refused.refusal c.in-Refused.is; short = tt }
+    let e = err_from_is_err_and c.from_residual.result c.from_residual.ensures.1 in
+    rw (e.1, e.2) (record { measures = body_refused a.converter.policy a.converter.d a.b.now a.body a.properties a.entry _ c.in_err-front.ensures; short = tt })
 
-pub returns-in-Refused-measure_tail : goal.returns-in-Refused-measure_tail
-returns-in-Refused-measure_tail c =
+pub returns-in_err-tail : goal.returns-in_err-tail
+returns-in_err-tail c =
     let a = c.args in
-    record {
-      measures = tail-refused a.converter.policy a.converter.d a.b.now a.body a.properties a.entry c.measure_body.result c.measure_body.ensures c.in-Through.length c.in-Through.e c.in-Through.is
-          c.measure_tail.result c.measure_tail.ensures c.in-Refused-measure_tail.refusal2 c.in-Refused-measure_tail.is;
-      short = tt;
-    }
+    let e = err_from_is_err_and c.from_residual-in_err-tail.result c.from_residual-in_err-tail.ensures.1 in
+    rw (e.1, e.2) (record { measures = tail-refused a.converter.policy a.converter.d a.b.now a.body a.properties a.entry _ c.in_ok-front.ensures _ c.in_err-tail.ensures; short = tt })
 
-pub returns-in-Through-measure_tail : goal.returns-in-Through-measure_tail
-returns-in-Through-measure_tail c =
+pub returns : goal.returns
+returns c =
     let a = c.args in
+    let k = both_small a.converter.policy a.converter.d a.b.now a.body a.properties a.entry _ c.in_ok-front.ensures _ c.in_ok-tail.ensures c.requires.element_in in
     record {
-      measures = both-measured a.converter.policy a.converter.d a.b.now a.body a.properties a.entry c.measure_body.result c.measure_body.ensures c.in-Through.length c.in-Through.e c.in-Through.is
-          c.measure_tail.result c.measure_tail.ensures c.in-Through-measure_tail.more c.in-Through-measure_tail.e2 c.in-Through-measure_tail.is;
-      short = both_small a.converter.policy a.converter.d a.b.now a.body a.properties a.entry c.measure_body.result c.measure_body.ensures c.in-Through.length c.in-Through.e c.in-Through.is
-          c.measure_tail.result c.measure_tail.ensures c.requires.element_in c.in-Through-measure_tail.more c.in-Through-measure_tail.e2 c.in-Through-measure_tail.is;
+      measures = ap (λ (n : ℕ). through n c.in_ok-tail.tail.entry) (omega arith) ∙ both-measured a.converter.policy a.converter.d a.b.now a.body a.properties a.entry _ c.in_ok-front.ensures _ c.in_ok-tail.ensures;
+      short = omega arith;
     }

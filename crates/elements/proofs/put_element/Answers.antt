@@ -1,6 +1,6 @@
 -- `elements::put_element` meets its contract: the parts behind the room of the options, then the options behind the first record. Assumes nothing.
 use Rattle.elements.proofs.PutLaws.{places-room, kind-in, inside, parts-accepted, all_fit, options-room, element-put}
-use Rattle.elements.proofs.OptionLaws.{options-are, plex-fits}
+use Rattle.elements.proofs.OptionLaws.{options-are}
 use Rattle.block_places.proofs.PlacesLaws.{shift_is, options-in}
 use Rattle.conversion.specs.declared.Entry.{Entry}
 use native.Mathlib.Omega.{arith}
@@ -43,9 +43,7 @@ put_parts-written-requires c =
 
 pub put_options-requires : goal.put_options-requires
 put_options-requires c =
-    let r = places-room c.args.converter.policy c.args.converter.d c.args.b.now c.args.part.now c.requires in
-    let fits = plex-fits c.args.b.now (options-are c.args.b.now c.element_places-element.ensures) (λ i. omega (arith, c.type_inv.b i)) (options-in c.args.b.now (omega arith)) in
-    record { fits = fits; options_in_bounds = options-room c.args.converter.policy c.args.converter.d c.args.b.now c.args.part.now c.requires c.element_places-element.result c.element_places-element.ensures c.block_from-rest.ensures c.options_length-from.result c.options_length-from.ensures.0 c.put_parts-written.ensures }
+    record { options_in_bounds = options-room c.args.converter.policy c.args.converter.d c.args.b.now c.args.part.now c.requires c.element_places-element.result c.element_places-element.ensures c.block_from-rest.ensures c.options_length-from.result c.options_length-from.ensures.0 c.put_parts-written.ensures }
 
 pub returns : goal.returns
 returns c =

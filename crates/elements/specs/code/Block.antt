@@ -1,5 +1,7 @@
 -- One block of the sheet measured and written, by the definition of writing an element (cell/specs/Write). Assumes nothing.
-use Rattle.std.specs.Prelude.{◌≡◌, true, List, ◌++◌, ℕ, ◌+◌, ◌*◌, ◌≤◌, T, length, take, drop, Float}
+use Rattle.std.specs.Prelude.{◌≡◌, true, List, ◌++◌, ℕ, ◌+◌, ◌*◌, ◌≤◌, T, length, take, drop, Float, Result, Ok, Err}
+use Rattle.std.specs.Option.{is_some}
+use Rattle.refusal.specs.declared.Refusal.{Refusal}
 use Rattle.std.proofs.Math.Option.{Option, none, some}
 use Rattle.refusal.specs.declared.Refusal.TheVariants as R
 use Rattle.conversion.specs.declared.GdsRoundingPolicy.{GdsRoundingPolicy}
@@ -13,9 +15,8 @@ use Rattle.stream.specs.Records.{bits_record, long_record, element_bytes}
 use Rattle.cell.specs.Write.{write_body, write_properties, write_element}
 use Rattle.cell.specs.Order.{Accepted}
 use Rattle.steps.specs.declared.Measured.{Measured}
-use Rattle.steps.specs.declared.Measured.TheVariants as M
 use Rattle.steps.specs.declared.Written.{Written}
-use Rattle.steps.specs.code.Steps.{sizing, Writes}
+use Rattle.steps.specs.code.Steps.{through, sizing, Writes}
 use Rattle.records.specs.code.Bytes.{record_head, word_record_length, long_record_length, Placed, opt_bytes}
 use Rattle.block_places.specs.declared.Options.{Options}
 use Rattle.block_places.specs.code.Places.{flags_of, plex_of, size_if}
@@ -40,7 +41,7 @@ parts_bytes p = body_bytes p.body ++ tail_bytes p.properties
 -- ---- the options: the bytes of ELFLAGS and PLEX
 
 abbrev pub options_length : Options → ℕ
-options_length o = size_if o.flagged word_record_length + size_if o.plexed long_record_length
+options_length o = size_if (is_some o.flags) word_record_length + size_if (is_some o.plex) long_record_length
 
 -- of both
 abbrev pub max_options_length : ℕ
@@ -50,9 +51,9 @@ unfoldable pub options_bytes : Options → List ℕ
 options_bytes o = opt_bytes (bits_record ELFLAGS) (flags_of o) ++ opt_bytes (long_record PLEX) (plex_of o)
 
 -- what is measured of the parts, with n bytes more
-abbrev pub longer : ℕ → Measured → Measured
-longer n (M.Refused r) = M.Refused r
-longer n (M.Through length e) = M.Through (length + n) e
+abbrev pub longer : ℕ → Result Measured Refusal → Result Measured Refusal
+longer n (Err r) = Err r
+longer n (Ok m) = through (m.length + n) m.entry
 
 -- the first record, which stands at `from`, put at the start, with the options after it
 abbrev pub PutsOptions : Options → List ℕ → List ℕ → ℕ → Type 0
@@ -61,14 +62,14 @@ PutsOptions o before after to = Placed (take record_head (drop (options_length o
 -- ---- the element of index i that a block holds: "form first", then its own refusals
 
 -- the length of its bytes and its entry
-unfoldable pub measured_block : GdsRoundingPolicy → Float → ℕ → Option Element → Measured
-measured_block policy d i none = M.Refused R.Form
-measured_block policy d i (some e) = run M.Refused (blank_entry i (kind_of e.body)) (write_element policy d e) (sizing element_bytes)
+unfoldable pub measured_block : GdsRoundingPolicy → Float → ℕ → Option Element → Result Measured Refusal
+measured_block policy d i none = Err R.Form
+measured_block policy d i (some e) = run Err (blank_entry i (kind_of e.body)) (write_element policy d e) (sizing element_bytes)
 
 -- what is measured is short: the lengths of a sheet's blocks have a sum that a word holds
-abbrev pub Short : ℕ → Measured → Type 0
-Short n (M.Refused r) = T true
-Short n (M.Through length e) = length ≤ 84 + 4 * n
+abbrev pub Short : ℕ → Result Measured Refusal → Type 0
+Short n (Err r) = T true
+Short n (Ok m) = m.length ≤ 84 + 4 * n
 
 -- no check refuses the block's element, and n bytes hold its own
 pub record Fits (policy : GdsRoundingPolicy) (d : Float) (b : List ℕ) (n : ℕ) : Type 0 where

@@ -1,33 +1,19 @@
--- `gds_format::fraction` meets its contract. Assumes nothing.
-use mathlib.Core.Path.{◌≡◌, sym, ap, ◌∙◌, subst}
-use Prim.Native.Nat.{ℕ, ◌+◌, ◌*◌, ◌^◌, ◌≤◌, ◌<◌}
-use native.Mathlib.Omega.{arith}
-use lib.Dec.{lit<}
-use lib.IntN.{ℤ, pos, ◌-ℤ◌}
+-- `gds_format::fraction` meets its contract: no bit of the digits is lost. Assumes nothing.
+use mathlib.Core.Path.{◌≡◌, ap, ◌∙◌}
+use Prim.Native.Nat.{ℕ, ◌+◌, ◌*◌, ◌^◌, ◌≤◌}
+use lib.IntN.{nat_abs, pos, ◌-ℤ◌}
 use lib.Pow.{shl_exact}
 use mir.Syntax.{w32}
-use mir.ValLaws.{to_z-of_z}
+use mir.Val.{to_z, of_z}
+use Rattle.std.proofs.Common.{arith}
+use Rattle.std.proofs.lemmas.Int.{to_z-of_z}
 use Rattle.gds_format.specs.Real8.{floor_mod}
-use Rattle.gds_format.proofs.FloorDivision.{mod_below}
+use Rattle.gds_format.proofs.FloorDivision.{rem_euclid-is}
 use Rattle.gds_format.proofs.fraction.Goals as goal
-
-module _ (c : goal.After-rem_euclid_4) where
-  abbrev shift : ℕ
-  shift = floor_mod (pos c.args.power -ℤ pos 1022) 4
-
-  is : c.rem_euclid_4.result ≡ shift
-  is = c.rem_euclid_4.ensures ∙ ap (λ (z : ℤ). floor_mod z 4) (to_z-of_z w32 c.binary_exponent.result (record { sfits = c.binary_exponent.type_inv }) ∙ c.binary_exponent.ensures)
-
-  few : c.rem_euclid_4.result < 4
-  few = subst (λ (k : ℕ). k < 4) (sym is) (mod_below (pos c.args.power -ℤ pos 1022) 4 (lit< tt))
-
-pub overflow_shl-result : goal.overflow_shl-result
-overflow_shl-result c = omega (arith, few c)
 
 pub returns : goal.returns
 returns c =
-    shl_exact 53 c.rem_euclid_4.result 64 c.requires.digits_bound (room _ (few c))
-    ∙ ap (λ (k : ℕ). c.args.digits * 2 ^ k) (is c)
-  where
-    room : (k : ℕ) → k < 4 → 53 + k ≤ 64
-    room k h = omega arith
+    let shift = nat_abs (to_z w32 (of_z w32 c.rem_euclid.result)) in
+    let is : shift ≡ floor_mod (pos c.args.power -ℤ pos 1022) 4 = grind (arith, to_z-of_z, rem_euclid-is) in
+    let room : 53 + shift ≤ 64 = grind (arith, to_z-of_z) in
+    shl_exact 53 shift 64 c.requires.digits_bound room ∙ ap (λ (k : ℕ). c.args.digits * 2 ^ k) is

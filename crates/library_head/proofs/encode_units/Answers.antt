@@ -1,8 +1,7 @@
 -- A positive user unit, and two encodings (UnitsLaws). Assumes nothing.
-use borrow.Author.Rules.{rules}
-use Rattle.library_head.proofs.UnitsLaws.{units-sign, units-user, units-database, units-both}
 use mathlib.Core.Bool.{not}
-use mathlib.Core.Path.{ap}
+use mathlib.Core.Path.{refl, ap}
+use Rattle.library_head.proofs.UnitsLaws.{real-of, units-sign, units-user, units-database, units-both}
 use Rattle.library_head.proofs.encode_units.Goals as goal
 
 pub returns-then-not-is_positive : goal.returns-then-not-is_positive
@@ -11,20 +10,22 @@ returns-then-not-is_positive c =
     let a = c.args in
     units-sign a.user_unit a.d t.result t.ensures (ap not c.if-not-is_positive.true)
 
-pub returns-in-Refused : goal.returns-in-Refused
-returns-in-Refused c =
+pub returns-in_err-user : goal.returns-in_err-user
+returns-in_err-user c =
     let t = c.is_positive in
     let a = c.args in
-    units-user a.user_unit a.d t.result t.ensures (ap not c.if-not-is_positive.false) c.encode.result c.encode.ensures c.in-Refused.error c.in-Refused.is
+    rw c.from_residual.ensures (units-user a.user_unit a.d t.result t.ensures (ap not c.if-not-is_positive.false) _ (real-of a.user_unit c.encode.result c.encode.ensures _ c.in_err-user.ensures.value) refl)
 
-pub returns-in-Refused-encode : goal.returns-in-Refused-encode
-returns-in-Refused-encode c =
+pub returns-in_err-database : goal.returns-in_err-database
+returns-in_err-database c =
     let t = c.is_positive in
     let a = c.args in
-    units-database a.user_unit a.d t.result t.ensures (ap not c.if-not-is_positive.false) c.encode.result c.encode.ensures c.in-Encoded.user c.in-Encoded.is c.encode-in-Encoded.result c.encode-in-Encoded.ensures c.in-Refused-encode.error c.in-Refused-encode.is
+    let user = real-of a.user_unit c.encode.result c.encode.ensures _ c.in_ok-user.ensures.value in
+    rw c.from_residual-in_err-database.ensures (units-database a.user_unit a.d t.result t.ensures (ap not c.if-not-is_positive.false) _ user c.in_ok-user.user refl (real-of a.d c.encode-2.result c.encode-2.ensures _ c.in_err-database.ensures.value))
 
-pub returns-in-Encoded-encode : goal.returns-in-Encoded-encode
-returns-in-Encoded-encode c =
+pub returns : goal.returns
+returns c =
     let t = c.is_positive in
     let a = c.args in
-    units-both a.user_unit a.d t.result t.ensures (ap not c.if-not-is_positive.false) c.encode.result c.encode.ensures c.in-Encoded.user c.in-Encoded.is c.encode-in-Encoded.result c.encode-in-Encoded.ensures c.in-Encoded-encode.database c.in-Encoded-encode.is
+    let user = real-of a.user_unit c.encode.result c.encode.ensures _ c.in_ok-user.ensures.value in
+    units-both a.user_unit a.d t.result t.ensures (ap not c.if-not-is_positive.false) _ user c.in_ok-user.user c.in_ok-database.database refl (real-of a.d c.encode-2.result c.encode-2.ensures _ c.in_ok-database.ensures.value)

@@ -1,6 +1,5 @@
 -- `library_head::head_form` meets its contract: one law for each way out. Assumes nothing.
 use mathlib.Core.Path.{sym}
-use borrow.Author.Rules.{rules}
 use Rattle.library_head.proofs.FormLaws.{head-bare, head-other, head-is}
 use Rattle.library_head.proofs.head_form.Goals as goal
 

@@ -1,7 +1,6 @@
 -- HEADER, BGNLIB from the block's own bytes, LIBNAME, UNITS (PutLaws). Assumes nothing.
 use mathlib.Core.Path.{ap}
 use native.Mathlib.Omega.{arith}
-use borrow.Author.Rules.{rules}
 use lib.ListN.{length}
 use Rattle.walk.proofs.StampsLaws.{stamps-length}
 use Rattle.library_head.proofs.PutLaws.{head-room, head-put}

@@ -1,7 +1,9 @@
 -- Block 0 of a library sheet, found in places and checked, by the definition of writing a library (library/specs/Library). Assumes nothing.
-use Rattle.std.specs.Prelude.{◌≡◌, true, List, ℕ, ◌+◌, ◌≤◌, T, leb, length, Float}
+use Rattle.std.specs.Prelude.{◌≡◌, true, List, ℕ, ◌+◌, ◌≤◌, T, leb, length, Float, Result, Ok, Err}
 use Rattle.std.proofs.Math.Option.{Option, none, some}
+use Rattle.std.specs.Prelude as Code
 use Rattle.big_endian.specs.Big.{bytes_of}
+use Rattle.refusal.specs.declared.Refusal.{Refusal}
 use Rattle.refusal.specs.declared.Refusal.TheVariants as R
 use Rattle.conversion.specs.Made.{Made, refused, pure, need, ◌>>◌}
 use Rattle.sheet.specs.Library.{LibraryHead, library_head_of}
@@ -10,13 +12,9 @@ use Rattle.stream.specs.Library.{FileHead, file_head_bytes}
 use Rattle.block_places.specs.code.Place.{words_from, string_at, string_end, double_at, stamp_numbers, stamps_length}
 use Rattle.cell.specs.Stamps.{stamps_fit}
 use Rattle.library.specs.Library.{max_library_name_length, file_head_for, file_head_of}
-use Rattle.library_head.specs.declared.HeadForm.{HeadForm}
-use Rattle.library_head.specs.declared.HeadForm.TheVariants as F
 use Rattle.library_head.specs.declared.Units.{Units}
-use Rattle.library_head.specs.declared.Units.TheVariants as U
 use Rattle.library_head.specs.declared.HeadParts.{HeadParts}
 use Rattle.library_head.specs.declared.HeadChecked.{HeadChecked}
-use Rattle.library_head.specs.declared.HeadChecked.TheVariants as H
 
 -- ---- the form
 
@@ -33,27 +31,27 @@ pub record PartsIn (b : List ℕ) (at : ℕ) : Type 0 where
   pub name_in : string_end b 0 ≤ length b
   pub stamps-in : at + user_unit_length + stamps_length ≤ length b
 
-abbrev pub form_at : List ℕ → HeadForm → Option LibraryHead
-form_at b F.Ill = none
-form_at b (F.Head at) = some (library_head_at b at)
+abbrev pub form_at : List ℕ → Code.Option ℕ → Option LibraryHead
+form_at b Code.None = none
+form_at b (Code.Some at) = some (library_head_at b at)
 
-abbrev pub FormIn : List ℕ → HeadForm → Type 0
-FormIn b F.Ill = T true
-FormIn b (F.Head at) = PartsIn b at
+abbrev pub FormIn : List ℕ → Code.Option ℕ → Type 0
+FormIn b Code.None = T true
+FormIn b (Code.Some at) = PartsIn b at
 
-pub record FormRead (b : List ℕ) (r : HeadForm) : Type 0 where
+pub record FormRead (b : List ℕ) (r : Code.Option ℕ) : Type 0 where
   pub form : library_head_of b ≡ form_at b r
   pub places : FormIn b r
 
 -- ---- 24
 
 -- the file's own records of a head with these reals, or none
-abbrev pub head_encoded : LibraryHead → Units → Option FileHead
-head_encoded h U.Refused = none
-head_encoded h (U.Encoded user database) = some (file_head_for h (bytes_of 8 user) (bytes_of 8 database))
+abbrev pub head_encoded : LibraryHead → Code.Option Units → Option FileHead
+head_encoded h Code.None = none
+head_encoded h (Code.Some u) = some (file_head_for h (bytes_of 8 u.user) (bytes_of 8 u.database))
 
 -- of every head with this user unit
-pub record UnitsRead (user d : Float) (r : Units) : Type 0 where
+pub record UnitsRead (user d : Float) (r : Code.Option Units) : Type 0 where
   pub reals : (h : LibraryHead) → h.user_unit ≡ user → file_head_of d h ≡ head_encoded h r
 
 -- ---- 23, 6, 24, 25
@@ -75,9 +73,9 @@ pub record HeadIn (b : List ℕ) (p : HeadParts) : Type 0 where
   pub name-short : length (string_at b 0) ≤ max_library_name_length
   pub stamps-in : p.stamps + stamps_length ≤ length b
 
-abbrev pub step_of : List ℕ → HeadChecked → Made FileHead
-step_of b (H.Refused r) = refused r
-step_of b (H.Passed p n) = pure (file_head_at b p)
+abbrev pub step_of : List ℕ → Result HeadChecked Refusal → Made FileHead
+step_of b (Err r) = refused r
+step_of b (Ok c) = pure (file_head_at b c.parts)
 
 -- a name has at most 65,530 bytes: sums with the length fit
 pub record HeadPassed (b : List ℕ) (p : HeadParts) (n : ℕ) : Type 0 where
@@ -85,11 +83,11 @@ pub record HeadPassed (b : List ℕ) (p : HeadParts) (n : ℕ) : Type 0 where
   pub count : n ≡ length (file_head_bytes (file_head_at b p))
   pub small : n ≤ 65588
 
-abbrev pub CheckedIn : List ℕ → HeadChecked → Type 0
-CheckedIn b (H.Refused r) = T true
-CheckedIn b (H.Passed p n) = HeadPassed b p n
+abbrev pub CheckedIn : List ℕ → Result HeadChecked Refusal → Type 0
+CheckedIn b (Err r) = T true
+CheckedIn b (Ok c) = HeadPassed b c.parts c.length
 
 -- the checks of a head x, as they go for the block b
-pub record HeadRead (d : Float) (b : List ℕ) (x : Option LibraryHead) (r : HeadChecked) : Type 0 where
+pub record HeadRead (d : Float) (b : List ℕ) (x : Option LibraryHead) (r : Result HeadChecked Refusal) : Type 0 where
   pub step : step_of b r ≡ head_step d x
   pub places : CheckedIn b r

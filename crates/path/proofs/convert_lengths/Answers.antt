@@ -1,48 +1,39 @@
 -- `convert_lengths` meets its contract. Assumes nothing.
-use mir.Syntax.{w32}
-use mir.Val.{SFits}
-use mir.ValLaws.{to_z-of_z}
 use Rattle.block_places.specs.code.Places.{path_at}
+use Rattle.steps.proofs.StepLaws.{handed}
+use Rattle.path.specs.code.Front.{write_extent, GivesExtent}
 use Rattle.path.proofs.FrontLaws.{width-stops, begin-stops, end-stops, all_there}
-use borrow.Author.Rules.{rules}
 use Rattle.path.proofs.convert_lengths.Goals as goal
 
-pub returns-in-Refused : goal.returns-in-Refused
+pub returns-in_err-width : goal.returns-in_err-width
 unfolding path_at
-returns-in-Refused c =
+returns-in_err-width c =
     let a = c.args in
     let p = path_at a.b.now a.path in
-    let r1 = c.convert_length in
-    width-stops a.converter.policy a.converter.d p a.entry r1.result r1.ensures c.in-Refused.refusal c.in-Refused.is
+    let r = c.in_err-width.field-0.0 in
+    handed (GivesExtent p a.entry (write_extent a.converter.policy a.converter.d p)) r c.from_residual.result c.from_residual.ensures.1
+    (width-stops a.converter.policy a.converter.d p a.entry r c.in_err-width.ensures)
 
-pub returns-in-Refused-convert_length : goal.returns-in-Refused-convert_length
+pub returns-in_err-begin : goal.returns-in_err-begin
 unfolding path_at
-returns-in-Refused-convert_length c =
+returns-in_err-begin c =
     let a = c.args in
     let p = path_at a.b.now a.path in
-    let r1 = c.convert_length in
-    let r2 = c.convert_length-in-At in
-    begin-stops a.converter.policy a.converter.d p a.entry r1.result r1.ensures c.in-At.wide c.in-At.width c.in-At.e1 c.in-At.is r2.result r2.ensures c.in-Refused-convert_length.refusal2 c.in-Refused-convert_length.is
+    let r = c.in_err-begin.field-0.0 in
+    handed (GivesExtent p a.entry (write_extent a.converter.policy a.converter.d p)) r c.from_residual-in_err-begin.result c.from_residual-in_err-begin.ensures.1
+    (begin-stops a.converter.policy a.converter.d p a.entry c.in_ok-width.width c.in_ok-width.ensures r c.in_err-begin.ensures)
 
-pub returns-in-Refused-convert_length-2 : goal.returns-in-Refused-convert_length-2
+pub returns-in_err-end : goal.returns-in_err-end
 unfolding path_at
-returns-in-Refused-convert_length-2 c =
+returns-in_err-end c =
     let a = c.args in
     let p = path_at a.b.now a.path in
-    let r1 = c.convert_length in
-    let r2 = c.convert_length-in-At in
-    let r3 = c.convert_length-in-At-convert_length in
-    end-stops a.converter.policy a.converter.d p a.entry r1.result r1.ensures c.in-At.wide c.in-At.width c.in-At.e1 c.in-At.is r2.result r2.ensures c.in-At-convert_length.begun c.in-At-convert_length.begin c.in-At-convert_length.e2 c.in-At-convert_length.is r3.result r3.ensures c.in-Refused-convert_length-2.refusal3 c.in-Refused-convert_length-2.is
+    let r = c.in_err-end.field-0.0 in
+    handed (GivesExtent p a.entry (write_extent a.converter.policy a.converter.d p)) r c.from_residual-in_err-end.result c.from_residual-in_err-end.ensures.1
+    (end-stops a.converter.policy a.converter.d p a.entry c.in_ok-width.width c.in_ok-width.ensures c.in_ok-begin.begin c.in_ok-begin.ensures r c.in_err-end.ensures)
 
-pub returns-in-At-convert_length-2 : goal.returns-in-At-convert_length-2
+pub returns : goal.returns
 unfolding path_at
-returns-in-At-convert_length-2 c =
+returns c =
     let a = c.args in
-    let p = path_at a.b.now a.path in
-    let r1 = c.convert_length in
-    let r2 = c.convert_length-in-At in
-    let r3 = c.convert_length-in-At-convert_length in
-    let f1 : SFits w32 c.in-At.width = search rules in
-    let f2 : SFits w32 c.in-At-convert_length.begin = search rules in
-    let f3 : SFits w32 c.in-At-convert_length-2.end = search rules in
-    all_there a.converter.policy a.converter.d p a.entry r1.result r1.ensures c.in-At.wide c.in-At.width c.in-At.e1 c.in-At.is r2.result r2.ensures c.in-At-convert_length.begun c.in-At-convert_length.begin c.in-At-convert_length.e2 c.in-At-convert_length.is r3.result r3.ensures c.in-At-convert_length-2.ended c.in-At-convert_length-2.end c.in-At-convert_length-2.e3 c.in-At-convert_length-2.is _ _ _ (to_z-of_z w32 c.in-At.width f1) (to_z-of_z w32 c.in-At-convert_length.begin f2) (to_z-of_z w32 c.in-At-convert_length-2.end f3)
+    all_there a.converter.policy a.converter.d (path_at a.b.now a.path) a.entry c.in_ok-width.width c.in_ok-width.ensures c.in_ok-begin.begin c.in_ok-begin.ensures c.in_ok-end.end c.in_ok-end.ensures

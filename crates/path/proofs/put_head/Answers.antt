@@ -5,11 +5,12 @@ use Rattle.path.proofs.put_head.Goals as goal
 pub returns : goal.returns
 returns c =
     let a = c.args in
-    let t = c.has_path_type-typed in
-    head_at a.path.layer a.path.datatype t.result a.path.pathtype a.extent a.path.points.count t.ensures
-    c.put_empty_at-p.ensures
-    c.put_word_at-l.ensures
-    c.put_word_at-t.ensures
-    c.put_opt_word_at-k.ensures
-    c.put_extent-x.ensures
-    c.put_head_at.ensures
+    let t = c.path_type in
+    rw (← t.ensures)
+    (head_at a.path.layer a.path.datatype t.result a.extent a.path.points.count
+    c.put_empty_at-a1.ensures
+    c.put_word_at-a2.ensures
+    c.put_word_at-a3.ensures
+    c.put_opt_word_at-a4.ensures
+    c.put_extent-a5.ensures
+    c.put_head_at.ensures)

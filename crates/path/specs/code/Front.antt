@@ -1,7 +1,8 @@
 -- The steps of a path before its points: its checks and its three lengths (document 01, "Who can cause which refusal", 8 and 9, and "Result two";
 -- `write_path_with_converter` of write/mod.rs), and what the code answers of them. Assumes nothing.
-use Rattle.std.specs.Prelude.{◌≡◌, Bool, true, ℕ, ◌+◌, ◌≤◌, T, length, ℤ, Float}
+use Rattle.std.specs.Prelude.{◌≡◌, Bool, true, ℕ, ◌+◌, ◌≤◌, T, length, ℤ, Float, Result, Ok, Err}
 use Rattle.std.proofs.Math.Option.{Option}
+use Rattle.refusal.specs.declared.Refusal.{Refusal}
 use Rattle.refusal.specs.declared.Refusal.TheVariants as R
 use Rattle.conversion.specs.declared.GdsRoundingPolicy.{GdsRoundingPolicy}
 use Rattle.conversion.specs.declared.Entry.{Entry}
@@ -11,14 +12,12 @@ use Rattle.conversion.specs.Points.{write_length}
 use Rattle.conversion.specs.Field.{width_field, begin_field, end_field}
 use Rattle.sheet.specs.Element as S
 use Rattle.records.specs.code.Bytes.{option_of}
-use Rattle.steps.specs.code.Ready.{Ready, stopped, ready}
+use Rattle.steps.specs.code.Ready.{Ready, stopped, ready, ready_by}
 use Rattle.cell.specs.Limits.{within, min_path_points, max_points}
 use Rattle.cell.specs.Write.{is_some, layer_and_type}
 use Rattle.path.specs.declared.Extent.{Extent}
 use Rattle.path.specs.declared.Length.{Length}
-use Rattle.path.specs.declared.Length.TheVariants as L
 use Rattle.path.specs.declared.Lengths.{Lengths}
-use Rattle.path.specs.declared.Lengths.TheVariants as F
 
 -- ---- the steps
 
@@ -28,9 +27,9 @@ pub record OptExtent : Type 0 where
   pub begin : Option ℤ
   pub end : Option ℤ
 
--- of flags and values
+-- of the code's
 abbrev pub opt_extent : Extent → OptExtent
-opt_extent x = record { width = option_of x.wide x.width; begin = option_of x.begun x.begin; end = option_of x.ended x.end }
+opt_extent x = record { width = option_of x.width; begin = option_of x.begin; end = option_of x.end }
 
 module _ (policy : GdsRoundingPolicy) (d : Float) where
   unfoldable pub write_extent : S.Path → Made OptExtent
@@ -49,34 +48,32 @@ module _ (policy : GdsRoundingPolicy) (d : Float) where
 
 -- ---- what the code answers
 
-abbrev pub length_of : Length → Ready (Option ℤ)
-length_of (L.Refused r) = stopped r
-length_of (L.At there value e) = ready (option_of there value) e
+abbrev pub length_of : Result Length Refusal → Ready (Option ℤ)
+length_of = ready_by (λ v. option_of v.value) (λ v. v.entry)
 
-abbrev pub extent_of : Lengths → Ready OptExtent
-extent_of (F.Refused r) = stopped r
-extent_of (F.At x e) = ready (opt_extent x) e
+abbrev pub extent_of : Result Lengths Refusal → Ready OptExtent
+extent_of = ready_by (λ v. opt_extent v.extent) (λ v. v.entry)
 
 -- A length is there if it is on the sheet, and brings at most one deviation more.
-abbrev pub LengthFits : Bool → ℕ → Length → Type 0
-LengthFits on n (L.Refused r) = T true
-LengthFits on n (L.At there value e) = (there ≡ on) × (e.count ≤ n + 1)
+abbrev pub LengthFits : Bool → ℕ → Result Length Refusal → Type 0
+LengthFits on n (Err r) = T true
+LengthFits on n (Ok v) = (is_some (option_of v.value) ≡ on) × (v.entry.count ≤ n + 1)
 
-pub record GivesLength (on : Bool) (e : Entry) (m : Made (Option ℤ)) (r : Length) : Type 0 where
+pub record GivesLength (on : Bool) (e : Entry) (m : Made (Option ℤ)) (r : Result Length Refusal) : Type 0 where
   pub is : length_of r ≡ run stopped e m ready
   pub fits : LengthFits on e.count r
 
 -- the same of the three
 pub record Fits (p : S.Path) (n : ℕ) (x : Extent) (e : Entry) : Type 0 where
-  pub wide_is : x.wide ≡ is_some p.width
-  pub begun-is : x.begun ≡ is_some p.begin
-  pub ended_is : x.ended ≡ is_some p.end
+  pub wide_is : is_some (option_of x.width) ≡ is_some p.width
+  pub begun-is : is_some (option_of x.begin) ≡ is_some p.begin
+  pub ended_is : is_some (option_of x.end) ≡ is_some p.end
   pub grown : e.count ≤ n + 3
 
-abbrev pub ExtentFits : S.Path → ℕ → Lengths → Type 0
-ExtentFits p n (F.Refused r) = T true
-ExtentFits p n (F.At x e) = Fits p n x e
+abbrev pub ExtentFits : S.Path → ℕ → Result Lengths Refusal → Type 0
+ExtentFits p n (Err r) = T true
+ExtentFits p n (Ok v) = Fits p n v.extent v.entry
 
-pub record GivesExtent (p : S.Path) (e : Entry) (m : Made OptExtent) (r : Lengths) : Type 0 where
+pub record GivesExtent (p : S.Path) (e : Entry) (m : Made OptExtent) (r : Result Lengths Refusal) : Type 0 where
   pub is : extent_of r ≡ run stopped e m ready
   pub fits : ExtentFits p e.count r

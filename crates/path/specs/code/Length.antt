@@ -5,7 +5,7 @@ use Rattle.sheet.specs.Element as S
 use Rattle.stream.specs.Structure as D
 use Rattle.stream.specs.Record.{Rec, PATH, LAYER, DATATYPE, PATHTYPE, WIDTH, BGNEXTN, ENDEXTN, XY, four_byte, stream_bytes}
 use Rattle.stream.specs.Records.{empty_record, word_record, long_record, opt, path_records}
-use Rattle.records.specs.code.Bytes.{record_head, xy_point_length, head_bytes}
+use Rattle.records.specs.code.Bytes.{record_head, xy_point_length, head_bytes, option_of}
 use Rattle.cell.specs.Write.{is_some}
 use Rattle.path.specs.declared.Extent.{Extent}
 use Rattle.path.specs.code.Front.{OptExtent}
@@ -35,14 +35,14 @@ abbrev pub longs_length : Bool → Bool → Bool → ℕ
 longs_length wide begun ended = cond wide 8 0 + (cond begun 8 0 + cond ended 8 0)
 
 abbrev pub extent_length : Extent → ℕ
-extent_length x = longs_length x.wide x.begun x.ended
+extent_length x = longs_length (is_some (option_of x.width)) (is_some (option_of x.begin)) (is_some (option_of x.end))
 
 -- PATH 4, LAYER 6, DATATYPE 6, the head of the XY 4; a PATHTYPE 6
 abbrev pub flags_length : Bool → Bool → Bool → Bool → ℕ
 flags_length typed wide begun ended = 20 + (cond typed 6 0 + longs_length wide begun ended)
 
 abbrev pub head_length : Bool → Extent → ℕ
-head_length typed x = flags_length typed x.wide x.begun x.ended
+head_length typed x = flags_length typed (is_some (option_of x.width)) (is_some (option_of x.begin)) (is_some (option_of x.end))
 
 pub record HeadSize (typed : Bool) (x : Extent) (n : ℕ) : Type 0 where
   pub is : n ≡ head_length typed x

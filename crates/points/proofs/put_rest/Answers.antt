@@ -1,55 +1,34 @@
--- `points::put_rest` meets its contract. What is left to convert and write, run from the entry and the place reached, stays what the whole was, and succeeds; the measure is how many points are left. Assumes nothing.
-use mathlib.Core.Path.{refl, ◌∙◌}
+-- `points::put_rest` meets its contract. What is left to convert and write, run from the entry and the place reached, stays what the whole was, and succeeds. Assumes nothing.
+use mathlib.Core.Path.{◌∙◌}
 use Prim.Native.Nat.{◌+◌, ◌-◌, ◌≤◌}
 use native.Mathlib.Omega.{arith}
-use borrow.Author.Rules.{rules}
-use mir.Val.{SFits}
-use mir.Syntax.{w32}
+use Rattle.std.specs.Prelude.{Ok}
 use Rattle.big_endian.proofs.BufferLaws.{length_at}
+use Rattle.conversion.specs.code.Answer.{grid_point_of}
 use Rattle.conversion.specs.Points.{write_point, write_points}
 use Rattle.conversion.proofs.FoldLaws.{run-same}
 use Rattle.stream.specs.Records.{points_bytes}
 use Rattle.block_places.specs.code.Place.{point_at, points_from}
 use Rattle.steps.proofs.StepLaws.{stopped, putting, writes}
+use Rattle.coordinate.specs.code.Coordinate.{GivesPoint}
 use Rattle.coordinate.proofs.ValueLaws.{point-recorded, point-plain}
-use Rattle.points.proofs.PassingLaws.{rest-first, first-accepted}
-use Rattle.points.proofs.WalkLaws.{go_on, go-end, put-turn, put-end, Turn, point-put, never-pointed, first-succeeds}
-use Rattle.points.proofs.put_rest.Goals.{in-At, in-No+in-At-record_point}
+use Rattle.points.specs.code.Integers.{count_of}
+use Rattle.points.proofs.PassingLaws.{rest-first}
+use Rattle.points.proofs.WalkLaws.{same-pointed, go_on, go-end, put-turn, put-end, never-pointed, first-succeeds}
+use Rattle.points.proofs.put_rest.Goals.{in-Some, in_default+in-Ok}
 use Rattle.points.proofs.put_rest.Goals as goal
 
-pub loop-i-init : goal.loop-i-init
-loop-i-init c =
-    let a = c.args in
-    record {
-      within = search rules;
-      place = search rules;
-      count = search rules;
-      accepted = first-accepted a.converter.policy a.converter.d a.from a.rest.count a.b.now a.rest.place c.requires.succeeds;
-      long = refl;
-      spare = search rules;
-      rest = refl;
-    }
-
 -- no point is refused
-pub returns-in-Refused : goal.returns-in-Refused
+pub returns-in_default-record_point : goal.returns-in_default-record_point
 unfolding point_at
-returns-in-Refused c =
+returns-in_default-record_point c =
     let a = c.args in
     let l = c.loop-i in
     let x = c.convert_at-cx in
     let y = c.convert_at-cy in
-    let r = c.record_point in
-    never-pointed (first-succeeds a.converter.policy a.converter.d (a.from + a.rest.count) l.i a.b.now l.at c.loop-i-test.true l.invariant.accepted).point
-    (point-recorded a.converter.policy a.converter.d (point_at a.b.now l.at) x.result y.result x.ensures y.ensures 0 l.i l.e r.result r.ensures) c.in-Refused.is
-
-pub put_point-to-requires-in-At-record_point : goal.put_point-to-requires-in-At-record_point
-put_point-to-requires-in-At-record_point c =
-    let l = c.loop-i in
-    let t = c.loop-i-test.true in
-    let i = l.invariant.count in
-    let j = l.invariant.long in
-    let room = c.requires.count_in_bounds in
-    omega arith
+    let r = c.in_default-record_point in
+    never-pointed (first-succeeds a.converter.policy a.converter.d (a.from + (count_of a.rest.now)) l.i a.rest.now l.at c.loop-i-test.true l.invariant.accepted).point
+    (point-recorded a.converter.policy a.converter.d (point_at a.rest.now l.at) x.result y.result x.ensures y.ensures 0 l.i l.entry _ r.ensures)
 
 pub loop-i-preserved : goal.loop-i-preserved
 unfolding point_at
@@ -60,35 +39,26 @@ loop-i-preserved c =
     let m = c.match-plain_point in
     let x = c.convert_at-cx in
     let y = c.convert_at-cy in
-    let t : Turn l.e (write_point a.converter.policy a.converter.d 0 l.i (point_at a.b.now l.at)) l.to l.out m.to m.out m.e =
+    let p = point_at a.rest.now l.at in
+    let t : GivesPoint l.entry (write_point a.converter.policy a.converter.d 0 l.i p) (Ok (record { point = m.point; entry = m.entry })) =
     elim m.branch [
-      | in-At w ↦
-          let fx : SFits w32 w.in-At.x = search rules in
-          let fy : SFits w32 w.in-At.y = search rules in
-          point-put (point-plain a.converter.policy a.converter.d (point_at a.b.now l.at) x.result y.result x.ensures y.ensures 0 l.i l.e w.in-At.x w.in-At.y w.in-At.ensures)
-          w.in-At.x w.in-At.y l.e refl fx fy w.put_point-to.ensures w.out-is w.to-is w.e-is
-      | in-No+in-At-record_point w ↦
-          let r = w.record_point in
-          let g = w.in-At-record_point in
-          let fx : SFits w32 g.x = search rules in
-          let fy : SFits w32 g.y = search rules in
-          point-put (point-recorded a.converter.policy a.converter.d (point_at a.b.now l.at) x.result y.result x.ensures y.ensures 0 l.i l.e r.result r.ensures)
-          g.x g.y g.more g.is fx fy w.put_point-to-in-At-record_point.ensures w.out-is w.to-is w.e-is
+      | in-Some w ↦ same-pointed _ m.point m.entry (point-plain a.converter.policy a.converter.d p x.result y.result x.ensures y.ensures 0 l.i l.entry w.in-Some.plain w.in-Some.ensures) w.point-is w.entry-is
+      | in_default+in-Ok w ↦
+          same-pointed w.in-Ok.pointed m.point m.entry (point-recorded a.converter.policy a.converter.d p x.result y.result x.ensures y.ensures 0 l.i l.entry _ w.in-Ok.ensures) w.point-is w.entry-is
     ] in
-    let k : m.e.count ≤ l.e.count + 2 = t.converts.grown in
-    let w = t.wrote in
+    let k : m.entry.count ≤ l.entry.count + 2 = t.grown in
+    let w = c.put_point-to.ensures in
     let j = w.count in
     let h = c.loop-i-test.true in
     record {
-      within = search rules;
       place = omega arith;
       count = omega arith;
-      accepted = (first-succeeds a.converter.policy a.converter.d (a.from + a.rest.count) l.i a.b.now l.at h v.accepted).rest;
+      accepted = (first-succeeds a.converter.policy a.converter.d (a.from + (count_of a.rest.now)) l.i a.rest.now l.at h v.accepted).rest;
       long = length_at w ∙ v.long;
       spare = omega arith;
       rest = v.rest
-          ∙ go_on stopped a.converter.policy a.converter.d (a.from + a.rest.count) l.i a.b.now l.at l.e (putting points_bytes l.to l.out) h _ t.converts t.x t.y m.e refl
-          ∙ run-same stopped m.e (write_points a.converter.policy a.converter.d (l.i + 1) (points_from (a.from + a.rest.count - (l.i + 1)) a.b.now (l.at + 34))) _ _ (put-turn t.x t.y w);
+          ∙ go_on stopped a.converter.policy a.converter.d (a.from + (count_of a.rest.now)) l.i a.rest.now l.at l.entry (putting points_bytes l.to l.out) h _ t
+          ∙ run-same stopped m.entry (write_points a.converter.policy a.converter.d (l.i + 1) (points_from (a.from + (count_of a.rest.now) - (l.i + 1)) a.rest.now (l.at + 34))) _ _ (put-turn (grid_point_of m.point) w);
     }
 
 pub returns : goal.returns
@@ -96,12 +66,11 @@ returns c =
     let a = c.args in
     let l = c.loop-i in
     let v = l.invariant in
-    let i = v.within in
     let j = v.count in
     let room = c.requires.count_in_bounds in
-    writes points_bytes a.front.entry (write_points a.converter.policy a.converter.d a.from (points_from a.rest.count a.b.now a.rest.place)) a.front.to a.out.now l.out l.to l.e
-    (rest-first a.converter.policy a.converter.d a.from a.rest.count a.b.now a.rest.place stopped a.front.entry (putting points_bytes a.front.to a.out.now)
+    writes points_bytes a.front.entry (write_points a.converter.policy a.converter.d a.from (points_from (count_of a.rest.now) a.rest.now 0)) a.front.to a.out.now l.out l.to l.entry
+    (rest-first a.converter.policy a.converter.d a.from (count_of a.rest.now) a.rest.now 0 stopped a.front.entry (putting points_bytes a.front.to a.out.now)
     ∙ v.rest
-    ∙ go-end stopped a.converter.policy a.converter.d (a.from + a.rest.count) l.i a.b.now l.at l.e (putting points_bytes l.to l.out) c.loop-i-test.false
-    ∙ put-end l.to l.out l.e)
+    ∙ go-end stopped a.converter.policy a.converter.d (a.from + (count_of a.rest.now)) l.i a.rest.now l.at l.entry (putting points_bytes l.to l.out) c.loop-i-test.false
+    ∙ put-end l.to l.out l.entry)
     (omega arith)

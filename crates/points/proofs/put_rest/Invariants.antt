@@ -1,7 +1,7 @@
--- `points::put_rest` meets its contract. What is left to convert and write, run from the entry and the place reached, stays what the whole was, and succeeds; the measure is how many points are left. Assumes nothing.
+-- `points::put_rest` meets its contract. What is left to convert and write, run from the entry and the place reached, stays what the whole was, and succeeds. Assumes nothing.
 use mathlib.Core.Path.{◌≡◌}
 use mathlib.Core.List.{List}
-use Prim.Native.Nat.{ℕ, ◌+◌, ◌*◌, ◌-◌, ◌≤◌}
+use Prim.Native.Nat.{ℕ, ◌+◌, ◌*◌, ◌-◌}
 use lib.ListN.{length}
 use lib.Ieee.{Float}
 use Rattle.conversion.specs.declared.Entry.{Entry}
@@ -19,7 +19,6 @@ abbrev pub left : GdsRoundingPolicy → Float → List ℕ → ℕ → ℕ → �
 left policy d b n i at e to out = run stopped e (write_points policy d i (points_from (n - i) b at)) (putting points_bytes to out)
 
 pub record Inv (policy : GdsRoundingPolicy) (d : Float) (b : List ℕ) (from n k : ℕ) (out₀ : List ℕ) (start : ℕ) (e₀ : Entry) (out : List ℕ) (i at to : ℕ) (e : Entry) : Type 0 where
-  pub within : i ≤ n
   pub place : at + 34 * k ≡ from + 34 * i
   pub count : to + 8 * k ≡ start + 8 * i
   pub accepted : Succeeds (write_points policy d i (points_from (n - i) b at))
@@ -28,7 +27,4 @@ pub record Inv (policy : GdsRoundingPolicy) (d : Float) (b : List ℕ) (from n k
   pub rest : left policy d b n k from e₀ start out₀ ≡ left policy d b n i at e to out
 
 abbrev pub invariant-loop-i : goal.invariant-loop-i
-invariant-loop-i l = Inv l.converter.policy l.converter.d l.b l.initial.at l.last l.from l.initial.out l.initial.to l.initial.e l.out l.i l.at l.to l.e
-
-abbrev pub decreases-loop-i : goal.decreases-loop-i
-decreases-loop-i l = l.last - l.i
+invariant-loop-i l = Inv l.converter.policy l.converter.d l.rest l.initial.at l.i-end l.from l.initial.out l.initial.to l.initial.entry l.out l.i l.at l.to l.entry

@@ -1,5 +1,5 @@
 -- Points whose coordinates are integers in the database unit: "An integer whose unit equals d passes unchanged" (document 01, "Result two"). Assumes nothing.
-use Rattle.std.specs.Prelude.{◌≡◌, true, List, ℕ, zero, suc, ◌+◌, ◌*◌, ◌≤◌, T, ℤ, Float}
+use Rattle.std.specs.Prelude.{◌≡◌, true, List, ℕ, zero, suc, ◌+◌, ◌*◌, ◌/◌, ◌≤◌, length, T, ℤ, Float}
 use Rattle.std.proofs.Math.Option.{some}
 use Rattle.std.proofs.Common.{to_z}
 use Rattle.std.specs.Int.{w32}
@@ -10,8 +10,15 @@ use Rattle.units.specs.Physical.{passed}
 use Rattle.sheet.specs.Form.{integer_kind}
 use Rattle.stream.specs.Records.{points_bytes}
 use Rattle.records.specs.code.Bytes.{xy_point_length}
-use Rattle.block_places.specs.declared.PointsPlaces.{PointsPlaces}
-use Rattle.block_places.specs.code.Place.{values_from, unit_at, point_end}
+use Rattle.units.specs.declared.Unit.{Unit}
+use Rattle.block_places.specs.code.Place.{values_from, unit_at, point_end, points_from, point_length}
+
+-- of a list's bytes, how many points they are, and the points
+abbrev pub count_of : List ℕ → ℕ
+count_of s = length s / point_length
+
+abbrev pub points_in : List ℕ → List (Point Unit)
+points_in s = points_from (count_of s) s 0
 
 -- the lower four value bytes of a coordinate
 abbrev pub integer_at : List ℕ → ℕ → ℤ
@@ -40,11 +47,11 @@ AllPass d b (suc n) at = Passes d b at × Passes d b (at + 17) × AllPass d b n 
 -- ---- of a list, the points in front that pass
 
 -- the first k do
-pub record Passing (d : Float) (b : List ℕ) (points : PointsPlaces) (k : ℕ) : Type 0 where
-  pub within : k ≤ points.count
-  pub pass : AllPass d b k points.place
+pub record Passing (d : Float) (s : List ℕ) (k : ℕ) : Type 0 where
+  pub within : k ≤ count_of s
+  pub pass : AllPass d s k 0
 
 -- and their bytes stand in the output, from a place on
-pub record PutsPassing (d : Float) (b : List ℕ) (points : PointsPlaces) (start : ℕ) (before after : List ℕ) (k : ℕ) : Type 0 where
-  pub passing : Passing d b points k
-  pub wrote : WroteAt (points_bytes (integers_from k b points.place)) before after start (start + xy_point_length * k)
+pub record PutsPassing (d : Float) (s : List ℕ) (start : ℕ) (before after : List ℕ) (k : ℕ) : Type 0 where
+  pub passing : Passing d s k
+  pub wrote : WroteAt (points_bytes (integers_from k s 0)) before after start (start + xy_point_length * k)

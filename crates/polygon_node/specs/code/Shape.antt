@@ -1,5 +1,6 @@
 -- A polygon or a node: its bytes in the structure and their length (document 01, "Result one", "BOUNDARY or NODE: LAYER, DATATYPE or NODETYPE, XY"). Assumes nothing.
-use Rattle.std.specs.Prelude.{Bool, true, List, [], ◌++◌, ℕ, ◌+◌, ◌*◌, Float}
+use Rattle.std.specs.Prelude.{List, [], ◌++◌, ℕ, ◌+◌, ◌*◌, Float, Result}
+use Rattle.refusal.specs.declared.Refusal.{Refusal}
 use Rattle.conversion.specs.declared.Entry.{Entry}
 use Rattle.conversion.specs.declared.GdsRoundingPolicy.{GdsRoundingPolicy}
 use Rattle.conversion.specs.Made.{Made, pure, ◌>>=◌}
@@ -8,10 +9,8 @@ use Rattle.sheet.specs.Element as S
 use Rattle.stream.specs.Structure as D
 use Rattle.stream.specs.Record.{BOUNDARY, DATATYPE, NODE, NODETYPE, LAYER, XY, four_byte, record_bytes, stream_bytes}
 use Rattle.stream.specs.Records.{empty_record, word_record, shape_records}
-use Rattle.cell.specs.Write.{same_point}
 use Rattle.records.specs.code.Bytes.{record_head, xy_point_length, head_bytes}
 use Rattle.points.specs.declared.Walked.{Walked}
-use Rattle.points.specs.declared.Walked.TheVariants as W
 use Rattle.points.specs.code.Walk.{walked}
 
 -- ---- its bytes
@@ -40,13 +39,8 @@ shape_head code type_code layer datatype n =
 
 -- ---- its ends
 
-abbrev pub shape_ends : D.Shape → Entry → Walked
+abbrev pub shape_ends : D.Shape → Entry → Result Walked Refusal
 shape_ends w e = walked w.points e
-
--- the first point is the last, where the points are not refused
-abbrev pub closed_ends : Walked → Bool
-closed_ends (W.Refused x) = true
-closed_ends (W.Through x0 y0 x1 y1 e) = same_point (record { x = x0; y = y0 }) (record { x = x1; y = y1 })
 
 -- ---- its points, after the checks
 

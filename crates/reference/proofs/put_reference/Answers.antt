@@ -1,16 +1,14 @@
 -- `reference::put_reference` meets its contract: the values are ready, since nothing is refused, and the records are written. Assumes nothing.
 use mathlib.Core.Path.{ap}
 use native.Mathlib.Omega.{arith}
-use mir.Syntax.{w32}
-use mir.Val.{SFits}
-use mir.ValLaws.{to_z-of_z}
-use Rattle.cell.specs.Write.{write_reference}
+use Rattle.std.specs.Prelude.{Ok}
 use Rattle.block_places.specs.code.Places.{reference_at}
+use Rattle.cell.specs.Write.{write_reference}
 use Rattle.steps.proofs.ReadyLaws.{write-ready}
-use Rattle.reference.specs.code.Reference.{reference_bytes, ready_of, GivesReference, sref_of, aref_of}
-use Rattle.reference.proofs.ValueLaws.{reference-bounded, reference-past, reference-never}
-use Rattle.reference.proofs.RecordLaws.{same_sref}
-use borrow.Author.Rules.{rules}
+use Rattle.reference.specs.declared.ReferenceValues.{ReferenceValues}
+use Rattle.reference.specs.code.Reference.{reference_bytes, ready_of, sref_of, aref_of, GivesReference}
+use Rattle.reference.proofs.ValueLaws.{reference-bounded, reference-past, reference-never-refused}
+use Rattle.reference.proofs.put_reference.Goals.{After-unwrap-values}
 use Rattle.reference.proofs.put_reference.Goals as goal
 
 pub convert_reference-requires : goal.convert_reference-requires
@@ -23,28 +21,32 @@ convert_reference-requires c =
       spare = omega (arith, p.spare);
     }
 
-pub returns-in-Refused : goal.returns-in-Refused
-returns-in-Refused c =
+pub unwrap-values-requires : goal.unwrap-values-requires
+unwrap-values-requires c =
     let a = c.args in
-    let values : GivesReference a.b.now a.reference a.entry (write_reference a.converter.policy a.converter.d (reference_at a.b.now a.reference)) c.convert_reference.result =
-    reference-past a.converter.policy a.converter.d a.b.now a.reference a.entry c.requires.succeeds c.convert_reference.ensures in
-    reference-never a.converter.policy a.converter.d a.b.now a.reference a.entry c.requires.succeeds values c.in-Refused.is
+    reference-never-refused a.converter.policy a.converter.d a.b.now a.reference a.entry c.requires.succeeds _ c.convert_reference.ensures
+
+-- the values that are there
+there : (c : After-unwrap-values)
+    → GivesReference c.args.b.now c.args.reference c.args.entry (write_reference c.args.converter.policy c.args.converter.d (reference_at c.args.b.now c.args.reference)) (Ok c.unwrap-values.result)
+there c =
+    let a = c.args in
+    reference-past a.converter.policy a.converter.d a.b.now a.reference a.entry c.requires.succeeds (rw c.unwrap-values.ensures at c.convert_reference.ensures)
 
 pub returns-in-Single : goal.returns-in-Single
 returns-in-Single c =
     let a = c.args in
-    let r = c.convert_reference.result in
-    let values : GivesReference a.b.now a.reference a.entry (write_reference a.converter.policy a.converter.d (reference_at a.b.now a.reference)) c.convert_reference.result =
-    reference-past a.converter.policy a.converter.d a.b.now a.reference a.entry c.requires.succeeds c.convert_reference.ensures in
-    let fx : SFits w32 c.in-Single.x = search rules in
-    let fy : SFits w32 c.in-Single.y = search rules in
-    write-ready a.entry _ (ready_of a.b.now a.reference r) values.is reference_bytes (sref_of a.b.now a.reference c.in-Single.strans c.in-Single.x c.in-Single.y) c.in-Single.e _ (ap (ready_of a.b.now a.reference) c.in-Single.is)
-    (same_sref a.b.now a.reference c.in-Single.strans (to_z-of_z w32 c.in-Single.x fx) (to_z-of_z w32 c.in-Single.y fy) c.put_sref.ensures).wrote
+    let b = a.b.now in
+    let s = a.reference in
+    let k = c.in-Single in
+    let v = there (goal.at.returns-in-Single c).After-unwrap-values in
+    write-ready a.entry _ _ v.is reference_bytes (sref_of b s k.strans k.point) k.e _ (ap (λ (v : ReferenceValues). ready_of b s (Ok v)) k.is) c.put_sref.ensures.wrote
 
 pub returns-in-Array : goal.returns-in-Array
 returns-in-Array c =
     let a = c.args in
-    let r = c.convert_reference.result in
-    let values : GivesReference a.b.now a.reference a.entry (write_reference a.converter.policy a.converter.d (reference_at a.b.now a.reference)) c.convert_reference.result =
-    reference-past a.converter.policy a.converter.d a.b.now a.reference a.entry c.requires.succeeds c.convert_reference.ensures in
-    write-ready a.entry _ (ready_of a.b.now a.reference r) values.is reference_bytes (aref_of a.b.now a.reference c.in-Array.strans2 c.in-Array.corners) c.in-Array.e2 _ (ap (ready_of a.b.now a.reference) c.in-Array.is) c.put_aref.ensures.wrote
+    let b = a.b.now in
+    let s = a.reference in
+    let k = c.in-Array in
+    let v = there (goal.at.returns-in-Array c).After-unwrap-values in
+    write-ready a.entry _ _ v.is reference_bytes (aref_of b s k.strans k.corners) k.e _ (ap (λ (v : ReferenceValues). ready_of b s (Ok v)) k.is) c.put_aref.ensures.wrote

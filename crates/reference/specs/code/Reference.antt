@@ -1,14 +1,17 @@
 -- What the code of a reference answers, and the bytes of its records with their length by the sheet alone (document 01, "1 × 1 reference: SREF, SNAME, transform, XY.
 -- Else AREF, SNAME, transform, COLROW, XY of three points."). Assumes nothing.
-use Rattle.std.specs.Prelude.{◌≡◌, Bool, true, not, ◌&&◌, ◌||◌, cond, List, [], ℕ, ◌+◌, ◌%◌, ◌≤◌, T, leb, eqb, length, ℤ, Float}
+use Rattle.std.specs.Prelude.{◌≡◌, Bool, true, not, ◌&&◌, ◌||◌, cond, List, [], ℕ, ◌+◌, ◌%◌, ◌≤◌, T, leb, eqb, length, Float, Result, Ok, Err}
 use Rattle.std.proofs.Math.Option.{Option}
+use Rattle.refusal.specs.declared.Refusal.{Refusal}
 use Rattle.refusal.specs.declared.Refusal.TheVariants as R
 use Rattle.big_endian.specs.Big.{number_at}
+use Rattle.conversion.specs.declared.DatabasePoint.{DatabasePoint}
 use Rattle.conversion.specs.declared.Entry.{Entry}
 use Rattle.conversion.specs.declared.GdsRoundingPolicy.{GdsRoundingPolicy}
 use Rattle.conversion.specs.Array.{ArrayPoints, convert_array}
+use Rattle.conversion.specs.code.Answer.{grid_point_of}
 use Rattle.conversion.specs.code.Fold.{run}
-use Rattle.conversion.specs.Made.{Made, refused, pure, need, ◌>>=◌, ◌>>◌}
+use Rattle.conversion.specs.Made.{Made, Done, refused, pure, need, ◌>>=◌, ◌>>◌}
 use Rattle.sheet.specs.Element as S
 use Rattle.stream.specs.Strings.{padded}
 use Rattle.stream.specs.Structure as D
@@ -22,8 +25,6 @@ use Rattle.block_places.specs.code.Place.{spacing_at, string_at}
 use Rattle.transform.specs.declared.Strans.{Strans}
 use Rattle.transform.specs.code.Strans.{said_of, strans_bytes, strans_length, transform_length}
 use Rattle.steps.specs.code.Ready.{Ready, stopped, ready}
-use Rattle.validation.specs.declared.Check.{Check}
-use Rattle.validation.specs.declared.Check.TheVariants as C
 use Rattle.array.specs.declared.Corners.{Corners}
 use Rattle.array.specs.code.Corners.{corners_for, steps_of}
 use Rattle.reference.specs.declared.ReferenceValues.{ReferenceValues}
@@ -76,9 +77,9 @@ abbrev pub lacking : List ℕ → ℕ → ℕ → Bool
 lacking b n at = not (leb n 1 || is_some (spacing_at b at))
 
 -- what comes after checks that answer r
-abbrev pub guarded_by : {A : Type 0} → Check → Made A → Made A
-guarded_by (C.Refused x) m = refused x
-guarded_by C.Passed m = m
+abbrev pub guarded_by : {A : Type 0} → Result Done Refusal → Made A → Made A
+guarded_by (Err x) m = refused x
+guarded_by (Ok t) m = m
 
 -- what is within its limits
 pub record Bounded (b : List ℕ) (s : ReferencePlaces) : Type 0 where
@@ -86,12 +87,12 @@ pub record Bounded (b : List ℕ) (s : ReferencePlaces) : Type 0 where
   pub columns : s.columns ≤ max_col_row
   pub rows : s.rows ≤ max_col_row
 
-abbrev pub BoundedBy : List ℕ → ReferencePlaces → Check → Type 0
-BoundedBy b s (C.Refused x) = T true
-BoundedBy b s C.Passed = Bounded b s
+abbrev pub BoundedBy : List ℕ → ReferencePlaces → Result Done Refusal → Type 0
+BoundedBy b s (Err x) = T true
+BoundedBy b s (Ok t) = Bounded b s
 
 -- the answer is the checks'
-pub record Checks (b : List ℕ) (s : ReferencePlaces) (e : S.Reference) (r : Check) : Type 0 where
+pub record Checks (b : List ℕ) (s : ReferencePlaces) (e : S.Reference) (r : Result Done Refusal) : Type 0 where
   pub is : (m : Made D.SaidBody) → guarded_by r m ≡ guarded e m
   pub bounds : BoundedBy b s r
 
@@ -118,8 +119,8 @@ turned_array policy d e = do
   convert_array policy d e.sine e.cosine e.columns e.rows e.origin e.column_spacing e.row_spacing
 
 -- by the places, and the values that the sheet does not hold as they are
-unfoldable pub sref_of : List ℕ → ReferencePlaces → Strans → ℤ → ℤ → D.SaidBody
-sref_of b s t x y = D.sref (record { name = padded (string_at b s.name); transform = said_of t; origin = record { x = x; y = y } })
+unfoldable pub sref_of : List ℕ → ReferencePlaces → Strans → DatabasePoint → D.SaidBody
+sref_of b s t p = D.sref (record { name = padded (string_at b s.name); transform = said_of t; origin = grid_point_of p })
 
 unfoldable pub aref_of : List ℕ → ReferencePlaces → Strans → Corners → D.SaidBody
 aref_of b s t c =
@@ -134,10 +135,10 @@ aref_of b s t c =
       row_step = (steps_of c).row_step;
     })
 
-abbrev pub ready_of : List ℕ → ReferencePlaces → ReferenceValues → Ready D.SaidBody
-ready_of b s (N.Refused x) = stopped x
-ready_of b s (N.Single t x y e) = ready (sref_of b s t x y) e
-ready_of b s (N.Array t c e) = ready (aref_of b s t c) e
+abbrev pub ready_of : List ℕ → ReferencePlaces → Result ReferenceValues Refusal → Ready D.SaidBody
+ready_of b s (Err x) = stopped x
+ready_of b s (Ok (N.Single t p e)) = ready (sref_of b s t p) e
+ready_of b s (Ok (N.Array t c e)) = ready (aref_of b s t c) e
 
 -- what is written has the length that the sheet tells, `rest` after the transform
 pub record Fits (b : List ℕ) (s : ReferencePlaces) (t : Strans) (rest : ℕ) : Type 0 where
@@ -146,12 +147,12 @@ pub record Fits (b : List ℕ) (s : ReferencePlaces) (t : Strans) (rest : ℕ) :
   pub size : size_of (strans_length t) (number_at 2 b s.name) rest ≡ reference_length b s
 
 -- and an array's endpoints are those of its steps
-abbrev pub Fine : List ℕ → ReferencePlaces → ReferenceValues → Type 0
-Fine b s (N.Refused x) = T true
-Fine b s (N.Single t x y e) = Fits b s t single_rest
-Fine b s (N.Array t c e) = Fits b s t array_rest × (c ≡ corners_for s.columns s.rows (steps_of c))
+abbrev pub Fine : List ℕ → ReferencePlaces → Result ReferenceValues Refusal → Type 0
+Fine b s (Err x) = T true
+Fine b s (Ok (N.Single t p e)) = Fits b s t single_rest
+Fine b s (Ok (N.Array t c e)) = Fits b s t array_rest × (c ≡ corners_for s.columns s.rows (steps_of c))
 
 -- the answer is the step's
-pub record GivesReference (b : List ℕ) (s : ReferencePlaces) (e : Entry) (m : Made D.SaidBody) (r : ReferenceValues) : Type 0 where
+pub record GivesReference (b : List ℕ) (s : ReferencePlaces) (e : Entry) (m : Made D.SaidBody) (r : Result ReferenceValues Refusal) : Type 0 where
   pub is : ready_of b s r ≡ run stopped e m ready
   pub fine : Fine b s r

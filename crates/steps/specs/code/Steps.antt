@@ -1,7 +1,8 @@
 -- What measuring and writing promise of a step of the definitions (a `Made A` of conversion, whose value has bytes in the structure).
 -- A step is run against the element's report entry: it is refused, or its value takes its bytes and the entry its deviations. Measuring tells which;
 -- only a step that is not refused is written. Assumes nothing.
-use Rattle.std.specs.Prelude.{◌≡◌, List, ℕ, ◌+◌, ◌*◌, length}
+use Rattle.std.specs.Prelude.{◌≡◌, List, ℕ, ◌+◌, ◌*◌, length, Result, Ok, Err}
+use Rattle.refusal.specs.declared.Refusal.{Refusal}
 use Rattle.conversion.specs.declared.Deviation.{Deviation}
 use Rattle.conversion.specs.declared.Entry.{Entry}
 use Rattle.conversion.specs.Made.{Made, made}
@@ -9,7 +10,6 @@ use Rattle.conversion.specs.code.Fold.{noted_all, run}
 use Rattle.big_endian.specs.Buffer.{WroteAt}
 use Rattle.cell.specs.Limits.{max_points}
 use Rattle.steps.specs.declared.Measured.{Measured}
-use Rattle.steps.specs.declared.Measured.TheVariants as M
 use Rattle.steps.specs.declared.Written.{Written}
 
 -- ---- the entry
@@ -20,13 +20,17 @@ max_deviations = 3 + 2 * max_points
 
 -- ---- measuring
 
+-- so many bytes, with the entry after them
+abbrev pub through : ℕ → Entry → Result Measured Refusal
+through n e = Ok (record { length = n; entry = e })
+
 -- the length of the value's bytes
-unfoldable pub sizing : {A : Type 0} → (A → List ℕ) → A → Entry → Measured
-sizing bytes a e = M.Through (length (bytes a)) e
+unfoldable pub sizing : {A : Type 0} → (A → List ℕ) → A → Entry → Result Measured Refusal
+sizing bytes a e = through (length (bytes a)) e
 
 -- the answer is the step's: its first refusal, or the length of its bytes and the entry
-abbrev pub Measures : {A : Type 0} → (A → List ℕ) → Entry → Made A → Measured → Type 0
-Measures bytes e m r = r ≡ run M.Refused e m (sizing bytes)
+abbrev pub Measures : {A : Type 0} → (A → List ℕ) → Entry → Made A → Result Measured Refusal → Type 0
+Measures bytes e m r = r ≡ run Err e m (sizing bytes)
 
 -- ---- writing
 

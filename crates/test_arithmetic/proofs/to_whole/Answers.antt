@@ -1,6 +1,5 @@
 -- `test_arithmetic::to_whole` meets its contract: each way out is a law of `WholeLaws`. Assumes nothing.
-use Rattle.std.proofs.Common.{◌≡◌, true, sym, ◌∙◌, lt_of_le_of_lt, lit<, w64}
-use lib.Ieee.Scale.{finite}
+use Rattle.std.proofs.Common.{◌∙◌, lt_of_le_of_lt, lit<, w64}
 use mir.ValLaws.{to_z-of_z}
 use Rattle.binary64.specs.code.Whole.{rounded}
 use Rattle.binary64.proofs.PartsLaws.{toward-fits, toward-parts}
@@ -15,18 +14,16 @@ with_sign-requires c =
 
 pub returns-then-p-lt-WHOLE : goal.returns-then-p-lt-WHOLE
 returns-then-p-lt-WHOLE c =
-    let is_finite : finite c.args.x ≡ true = sym c.is_finite.ensures ∙ c.if-is_finite.true in
     let u = c.unpack-p in
     let s = c.args in
-    whole-at (rounded s.direction) s.x u.result.negative u.result.digits u.result.power u.ensures is_finite _ c.if-p-lt-WHOLE.true
+    whole-at (rounded s.direction) s.x u.result.negative u.result.digits u.result.power u.ensures (cc) _ c.if-p-lt-WHOLE.true
     (to_z-of_z w64 c.with_sign.result (record { sfits = c.with_sign.type_inv }) ∙ c.with_sign.ensures ∙ toward-parts s.direction s.x u.result.negative u.result.digits u.result.power u.ensures c.size_toward-n.result c.size_toward-n.ensures)
 
 pub returns-else-p-lt-WHOLE : goal.returns-else-p-lt-WHOLE
 returns-else-p-lt-WHOLE c =
-    let is_finite : finite c.args.x ≡ true = sym c.is_finite.ensures ∙ c.if-is_finite.true in
     let u = c.unpack-p in
     let s = c.args in
-    whole-beyond (rounded s.direction) s.x u.result.negative u.result.digits u.result.power u.ensures is_finite c.if-p-lt-WHOLE.false
+    whole-beyond (rounded s.direction) s.x u.result.negative u.result.digits u.result.power u.ensures (cc) c.if-p-lt-WHOLE.false
 
 pub returns-else-is_finite : goal.returns-else-is_finite
-returns-else-is_finite c = let s = c.args in whole-none (rounded s.direction) s.x (sym c.is_finite.ensures ∙ c.if-is_finite.false)
+returns-else-is_finite c = let s = c.args in whole-none (rounded s.direction) s.x (cc)

@@ -1,14 +1,8 @@
 -- `test_conversions::differ` meets its contract. Assumes nothing.
-use Rattle.test_report.proofs.DifferingLaws.{told-start, told-turn, told-end}
+use Rattle.std.proofs.Common.{rules}
+use Rattle.test_report.proofs.DifferingLaws.{by_answers}
+use Rattle.test_conversions.specs.Case.{agrees}
 use Rattle.test_conversions.proofs.differ.Goals as goal
 
-pub loop-k-init : goal.loop-k-init
-loop-k-init c = told-start _ _
-
-pub loop-k-preserved : goal.loop-k-preserved
-loop-k-preserved c =
-    let l = c.loop-k in
-    told-turn _ _ l.k l.found _ _ l.invariant c.loop-k-test.true c.agrees.ensures c.tell_case-found.ensures
-
 pub returns : goal.returns
-returns c = told-end _ _ _ _ c.loop-k.invariant c.loop-k-test.false
+returns c = by_answers (agrees c.args.cases.now) (λ k b l p. search rules) c.differ.ensures

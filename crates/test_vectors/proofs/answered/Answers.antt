@@ -1,10 +1,5 @@
 -- `test_vectors::answered` meets its contract. Assumes nothing.
-use mathlib.Core.Path.{sym}
-use native.Mathlib.Omega.{arith}
-use lib.Seq.{length-take-le}
-use Rattle.big_endian.proofs.BufferLaws.{length_at}
-use Rattle.test_vectors.proofs.CaseLaws.{stored-end, answered-is}
-use borrow.Author.Rules.{rules}
+use Rattle.test_vectors.proofs.CaseLaws.{answered-is}
 use Rattle.test_vectors.proofs.answered.Goals as goal
 
 pub returns : goal.returns

@@ -1,10 +1,8 @@
 -- `test_vectors::walk` meets its contract. Assumes nothing.
 use mathlib.Core.Path.{sym, ap₂}
-use Prim.Native.Nat.{ℕ, ◌-◌}
+use Prim.Native.Nat.{ℕ}
 use native.Mathlib.Omega.{arith}
-use borrow.Author.Rules.{rules}
-use lib.ListN.{length}
-use Rattle.test_vectors.proofs.CaseLaws.{next-within, Reached, reached-start, reached-turn, reached-end}
+use Rattle.test_vectors.proofs.CaseLaws.{next-within, reached-start, reached-turn, reached-end}
 use Rattle.test_vectors.proofs.walk.Goals as goal
 
 pub loop-at-init : goal.loop-at-init

@@ -1,10 +1,7 @@
 -- `test_vectors::walk` meets its contract. Assumes nothing.
-use mathlib.Core.Path.{sym, ap₂}
-use Prim.Native.Nat.{ℕ, ◌-◌}
-use native.Mathlib.Omega.{arith}
-use borrow.Author.Rules.{rules}
+use Prim.Native.Nat.{◌-◌}
 use lib.ListN.{length}
-use Rattle.test_vectors.proofs.CaseLaws.{next-within, Reached, reached-start, reached-turn, reached-end}
+use Rattle.test_vectors.proofs.CaseLaws.{Reached}
 use Rattle.test_vectors.proofs.walk.Given as goal
 
 abbrev pub invariant-loop-at : goal.invariant-loop-at

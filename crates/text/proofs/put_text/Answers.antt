@@ -1,43 +1,33 @@
--- `text::put_text` meets its contract: the values are ready, since nothing is refused, and the records are written. Assumes nothing.
-use mathlib.Core.Path.{◌≡◌, sym, ap, ◌∙◌, subst}
-use Prim.Native.Nat.{ℕ, ◌≤◌}
-use lib.ListN.{length}
-use mir.Syntax.{w32}
-use mir.Val.{SFits}
-use mir.ValLaws.{to_z-of_z}
+-- The values are there, since nothing is refused, and the records are written. Assumes nothing.
+use mathlib.Core.Path.{◌≡◌, refl}
+use Rattle.std.specs.Prelude.{Ok}
 use Rattle.conversion.specs.code.Fold.{run}
 use Rattle.cell.specs.Write.{write_text}
 use Rattle.block_places.specs.code.Places.{text_at}
 use Rattle.steps.specs.code.Ready.{stopped, ready}
-use Rattle.steps.proofs.ReadyLaws.{never-stopped, write-ready}
-use Rattle.text.specs.code.Text.{text_bytes, text_of, ready_of}
-use Rattle.text.proofs.TextLaws.{ready-past, ready-short, ready-length, same_point}
-use borrow.Author.Rules.{rules}
+use Rattle.steps.proofs.ReadyLaws.{write-ready}
+use Rattle.text.specs.code.Text.{text_bytes, ready_of}
+use Rattle.text.proofs.TextLaws.{ready-past, ready-short, ready-length, never-refused}
 use Rattle.text.proofs.put_text.Goals as goal
+use Rattle.text.proofs.put_text.Goals.{After-unwrap-values}
+
+pub unwrap-values-requires : goal.unwrap-values-requires
+unwrap-values-requires c = never-refused c.args.converter.policy c.args.converter.d c.args.b.now c.args.text c.args.entry _ c.requires.succeeds c.convert_text.ensures
+
+-- what is ready before the first byte is the text's own
+known : (c : After-unwrap-values) → ready_of c.args.b.now c.args.text (Ok c.unwrap-values.result) ≡ run stopped c.args.entry (write_text c.args.converter.policy c.args.converter.d (text_at c.args.b.now c.args.text)) ready
+known c = ready-past c.args.converter.policy c.args.converter.d _ c.args.entry _ c.requires.succeeds (rw c.unwrap-values.ensures at c.convert_text.ensures)
 
 pub put_records-requires : goal.put_records-requires
 put_records-requires c =
-    let is : let a = c.args in ready_of a.b.now a.text c.convert_text.result ≡ run stopped a.entry (write_text a.converter.policy a.converter.d (text_at a.b.now a.text)) ready = let a = c.args in ready-past a.converter.policy a.converter.d (text_at a.b.now a.text) a.entry _ c.requires.succeeds c.convert_text.ensures in
     let a = c.args in
-    let r = c.convert_text.result in
-    let i = is in
-    let l = ready-length a.b.now a.text c.requires.text_in.string-in a.converter.policy a.converter.d a.entry r i c.in-Ready.strans c.in-Ready.x c.in-Ready.y c.in-Ready.e c.in-Ready.is in
-    let m = ready-short a.b.now a.text c.requires.text_in.string-in a.converter.policy a.converter.d a.entry r i c.in-Ready.strans c.in-Ready.x c.in-Ready.y c.in-Ready.e c.in-Ready.is in
-    record { string_in_bounds = c.requires.text_in.string-in; string_bound = m; string_in_bounds_2 = subst (λ (n : ℕ). n ≤ length a.out.now) (sym l) c.requires.text_in_bounds }
+    let i = known (goal.at.put_records-requires c).After-unwrap-values in
+    let inside = c.requires.text_in.string-in in
+    record {
+      string_in_bounds = inside;
+      string_bound = ready-short a.b.now a.text inside a.converter.policy a.converter.d a.entry c.unwrap-values.result i;
+      string_in_bounds_2 = rw (ready-length a.b.now a.text inside a.converter.policy a.converter.d a.entry c.unwrap-values.result i) c.requires.text_in_bounds;
+    }
 
-pub returns-in-Refused : goal.returns-in-Refused
-returns-in-Refused c =
-    let is : let a = c.args in ready_of a.b.now a.text c.convert_text.result ≡ run stopped a.entry (write_text a.converter.policy a.converter.d (text_at a.b.now a.text)) ready = let a = c.args in ready-past a.converter.policy a.converter.d (text_at a.b.now a.text) a.entry _ c.requires.succeeds c.convert_text.ensures in
-    let a = c.args in
-    never-stopped a.entry (write_text a.converter.policy a.converter.d (text_at a.b.now a.text)) c.in-Refused.refusal c.requires.succeeds (ap (ready_of a.b.now a.text) (sym c.in-Refused.is) ∙ is)
-
-pub returns-in-Ready : goal.returns-in-Ready
-returns-in-Ready c =
-    let is : let a = c.args in ready_of a.b.now a.text c.convert_text.result ≡ run stopped a.entry (write_text a.converter.policy a.converter.d (text_at a.b.now a.text)) ready = let a = c.args in ready-past a.converter.policy a.converter.d (text_at a.b.now a.text) a.entry _ c.requires.succeeds c.convert_text.ensures in
-    let a = c.args in
-    let x = c.in-Ready.x in
-    let y = c.in-Ready.y in
-    let f : SFits w32 x = search rules in
-    let h : SFits w32 y = search rules in
-    let p = same_point a.b.now a.text c.in-Ready.strans x y _ _ (to_z-of_z w32 x f) (to_z-of_z w32 y h) c.put_records.ensures in
-    write-ready a.entry _ (ready_of a.b.now a.text c.convert_text.result) is text_bytes (text_of a.b.now a.text c.in-Ready.strans x y) c.in-Ready.e _ (ap (ready_of a.b.now a.text) c.in-Ready.is) p.wrote
+pub returns : goal.returns
+returns c = write-ready c.args.entry _ _ (known (goal.at.returns c).After-unwrap-values) text_bytes _ _ _ refl c.put_records.ensures.wrote

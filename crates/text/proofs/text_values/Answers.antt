@@ -1,27 +1,21 @@
 -- Each way out, in the order of the checks. Assumes nothing.
-use mathlib.Core.Path.{◌≡◌, sym, ap, ap₂, ◌∙◌}
-use lib.ListN.{length}
-use Rattle.conversion.specs.Made.{Made, Done, ◌>>◌}
-use Rattle.cell.specs.Write.{layer_and_type}
-use Rattle.validation.specs.declared.Check.{Check}
-use Rattle.validation.specs.code.Check.{check_of}
+use Rattle.std.proofs.lemmas.Result.{err_from_is_err_and}
+use Rattle.conversion.specs.Made.{◌>>=◌, ◌>>◌}
+use Rattle.conversion.specs.code.Fold.{run}
+use Rattle.conversion.proofs.MadeLaws.{pure_then}
 use Rattle.block_places.specs.code.Places.{text_at}
-use Rattle.steps.specs.code.Ready.{stopped, ready}
-use Rattle.text.specs.code.Text.{string_check}
-use Rattle.text.proofs.TextLaws.{checks-stop, checks-pass, string-long}
+use Rattle.text.proofs.TextLaws.{text-is, both-checked, string-long}
 use Rattle.text.proofs.text_values.Goals as goal
 
-pub returns-in-Refused : goal.returns-in-Refused
-unfolding text_at
-returns-in-Refused c =
-    let checks-are : (r : Check) → c.in_turn.result ≡ r → let a = c.args in let t = text_at a.b.now a.text in check_of r ≡ layer_and_type t.layer t.texttype >> string_check (length t.string) = λ r e. ap check_of (sym e) ∙ c.in_turn.ensures ∙ ap₂ (λ (m n : Made Done). m >> n) c.check_layer_and_type-numbers.ensures (c.check_string-string.ensures ∙ ap string_check (sym (string-long c.args.b.now c.args.text c.requires.text_in.string-in))) in
+pub returns-in_err-and : goal.returns-in_err-and
+unfolding run text_at ◌>>◌ ◌>>=◌
+returns-in_err-and c =
     let a = c.args in
-    checks-stop stopped a.entry ready a.converter.policy a.converter.d (text_at a.b.now a.text) c.in-Refused.refusal (checks-are _ c.in-Refused.is)
+    let e = err_from_is_err_and c.from_residual.result c.from_residual.ensures.1 in
+    rw (e.1, e.2, text-is, string-long a.b.now a.text c.requires.text_in.string-in, ← c.check_layer_and_type-numbers.ensures, ← c.check_string-string.ensures, ← both-checked c.check_layer_and_type-numbers.result c.check_string-string.result, ← c.and.ensures, c.in_err-and.was)
 
-pub returns-in-Passed : goal.returns-in-Passed
-unfolding text_at
-returns-in-Passed c =
-    let checks-are : (r : Check) → c.in_turn.result ≡ r → let a = c.args in let t = text_at a.b.now a.text in check_of r ≡ layer_and_type t.layer t.texttype >> string_check (length t.string) = λ r e. ap check_of (sym e) ∙ c.in_turn.ensures ∙ ap₂ (λ (m n : Made Done). m >> n) c.check_layer_and_type-numbers.ensures (c.check_string-string.ensures ∙ ap string_check (sym (string-long c.args.b.now c.args.text c.requires.text_in.string-in))) in
+pub returns : goal.returns
+unfolding text_at ◌>>◌
+returns c =
     let a = c.args in
-    c.convert_text.ensures
-    ∙ checks-pass stopped a.entry ready a.converter.policy a.converter.d (text_at a.b.now a.text) (checks-are _ c.in-Passed.is)
+    rw (text-is, string-long a.b.now a.text c.requires.text_in.string-in, ← c.check_layer_and_type-numbers.ensures, ← c.check_string-string.ensures, ← both-checked c.check_layer_and_type-numbers.result c.check_string-string.result, ← c.and.ensures, c.in_ok-and.was, pure_then) c.convert_text.ensures

@@ -1,9 +1,12 @@
 -- What the code of a text answers, and the bytes of its records with their length by the sheet alone (document 01, "TEXT: LAYER, TEXTTYPE, PRESENTATION .., transform, XY, STRING"). Assumes nothing.
 use Rattle.std.proofs.Math.Option.{Option, some}
-use Rattle.std.specs.Prelude.{List, [], ℕ, ◌+◌, ◌*◌, ◌%◌, leb, ℤ, Float}
+use Rattle.std.specs.Prelude.{List, [], ℕ, ◌+◌, ◌*◌, ◌%◌, leb, Float, Result}
+use Rattle.refusal.specs.declared.Refusal.{Refusal}
 use Rattle.refusal.specs.declared.Refusal.TheVariants as R
 use Rattle.big_endian.specs.Big.{number_at}
+use Rattle.conversion.specs.declared.DatabasePoint.{DatabasePoint}
 use Rattle.conversion.specs.declared.GdsRoundingPolicy.{GdsRoundingPolicy}
+use Rattle.conversion.specs.code.Answer.{grid_point_of}
 use Rattle.conversion.specs.Made.{Made, Done, pure, need, ◌>>=◌}
 use Rattle.conversion.specs.Points.{write_point}
 use Rattle.conversion.specs.Field.{origin_field}
@@ -18,9 +21,8 @@ use Rattle.block_places.specs.declared.TextPlaces.{TextPlaces}
 use Rattle.block_places.specs.code.Place.{string_at}
 use Rattle.transform.specs.declared.Strans.{Strans}
 use Rattle.transform.specs.code.Strans.{said_of, transform_length}
-use Rattle.steps.specs.code.Ready.{Ready, stopped, ready}
+use Rattle.steps.specs.code.Ready.{Ready, ready_by}
 use Rattle.text.specs.declared.TextValues.{TextValues}
-use Rattle.text.specs.declared.TextValues.TheVariants as X
 
 -- what the records of a text say
 abbrev pub SaidText : Type 0
@@ -52,17 +54,16 @@ after_checks policy d e = do
   pure (record { layer = e.layer; texttype = e.texttype; presentation = some (4 * e.vertical + e.horizontal); transform = u; origin = o; string = padded e.string })
 
 -- by the places, and the values that the sheet does not hold as they are
-unfoldable pub text_of : List ℕ → TextPlaces → Strans → ℤ → ℤ → SaidText
-text_of b s t x y =
+unfoldable pub text_of : List ℕ → TextPlaces → Strans → DatabasePoint → SaidText
+text_of b s t p =
     record {
       layer = s.layer;
       texttype = s.texttype;
       presentation = some (4 * s.vertical + s.horizontal);
       transform = said_of t;
-      origin = record { x = x; y = y };
+      origin = grid_point_of p;
       string = padded (string_at b s.string);
     }
 
-abbrev pub ready_of : List ℕ → TextPlaces → TextValues → Ready SaidText
-ready_of b s (X.Refused x) = stopped x
-ready_of b s (X.Ready t x y e) = ready (text_of b s t x y) e
+abbrev pub ready_of : List ℕ → TextPlaces → Result TextValues Refusal → Ready SaidText
+ready_of b s = ready_by (λ (v : TextValues). text_of b s v.strans v.point) (λ (v : TextValues). v.entry)

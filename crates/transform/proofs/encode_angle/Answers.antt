@@ -1,11 +1,14 @@
 -- Equal to 0, or encoded. Assumes nothing.
-use mathlib.Core.Path.{sym, ap, ◌∙◌}
-use lib.Ieee.{eq}
-use Rattle.transform.proofs.TransformLaws.{angle-absent, angle-there, zero_is}
+use mathlib.Core.Path.{◌∙◌}
+use lib.Ieee.{of_bits}
+use Rattle.cell.specs.Write.{write_angle}
+use Rattle.transform.proofs.TransformLaws.{mapped}
 use Rattle.transform.proofs.encode_angle.Goals as goal
 
 pub returns-then-degrees : goal.returns-then-degrees
-returns-then-degrees c = let a = c.args.degrees in angle-absent a (sym (ap (eq a) zero_is) ∙ c.if-degrees.true)
+unfolding write_angle of_bits
+returns-then-degrees c = rw c.if-degrees.true
 
 pub returns : goal.returns
-returns c = let a = c.args.degrees in c.encode_real.ensures ∙ angle-there a (sym (ap (eq a) zero_is) ∙ c.if-degrees.false)
+unfolding write_angle of_bits
+returns c = rw c.if-degrees.false (mapped _ _ c.map.ensures.cases ∙ c.encode_real.ensures)

@@ -1,39 +1,43 @@
 -- What the code of a transform answers, and the bytes of its records with their length (document 01, "Transform"). Assumes nothing.
-use Rattle.std.specs.Prelude.{Bool, not, ◌||◌, cond, List, [], ℕ, ◌+◌, Float}
-use Rattle.std.proofs.Math.Option.{Option, none, some}
+use Rattle.std.specs.Prelude.{Bool, not, ◌||◌, cond, List, [], ℕ, ◌+◌, Float, Result, Ok, Err, is_some}
+use Rattle.std.specs.Option.{option_map}
+use Rattle.std.specs.declared.option.Option as CodeOption
+use Rattle.std.proofs.Math.Option.{Option, some}
 use Rattle.std.specs.Float.Ieee.{eq}
+use Rattle.refusal.specs.declared.Refusal.{Refusal}
 use Rattle.big_endian.specs.Big.{bytes_of}
 use Rattle.binary64.specs.Value.{zero64, one64}
-use Rattle.conversion.specs.Made.{Made, refused, pure, ◌>>=◌}
+use Rattle.conversion.specs.Made.{Made, refused, pure}
 use Rattle.stream.specs.Structure as D
 use Rattle.stream.specs.Record.{stream_bytes}
 use Rattle.stream.specs.Records.{strans_records}
 use Rattle.cell.specs.Write.{strans_of}
 use Rattle.records.specs.code.Bytes.{option_of}
-use Rattle.transform.specs.declared.Real.{Real}
-use Rattle.transform.specs.declared.Real.TheVariants as R
 use Rattle.transform.specs.declared.Strans.{Strans}
-use Rattle.transform.specs.declared.Transform.{Transform}
-use Rattle.transform.specs.declared.Transform.TheVariants as T
 
 -- ---- the step that each answer stands for
 
-abbrev pub real_of : Real → Made (Option (List ℕ))
-real_of (R.Refused r) = refused r
-real_of R.Absent = pure none
-real_of (R.Pattern p) = pure (some (bytes_of 8 p))
+-- the bytes of a real that may be missing
+abbrev pub eight_of : CodeOption.Option ℕ → Option (List ℕ)
+eight_of p = option_of (option_map (bytes_of 8) p)
 
--- the transform once its magnification is known
-abbrev pub with_angle : Bool → Option (List ℕ) → Made (Option (List ℕ)) → Made (Option D.Strans)
-with_angle r m angle = angle >>= λ a. pure (strans_of r m a)
+-- a real that is written
+abbrev pub pattern_of : Result ℕ Refusal → Made (Option (List ℕ))
+pattern_of (Err r) = refused r
+pattern_of (Ok p) = pure (some (bytes_of 8 p))
+
+-- a real that may be missing
+abbrev pub real_of : Result (CodeOption.Option ℕ) Refusal → Made (Option (List ℕ))
+real_of (Err r) = refused r
+real_of (Ok p) = pure (eight_of p)
 
 -- what the records say
 abbrev pub said_of : Strans → Option D.Strans
-said_of s = strans_of s.reflection (option_of s.scaled (bytes_of 8 s.magnification)) (option_of s.turned (bytes_of 8 s.angle))
+said_of s = strans_of s.reflection (eight_of s.magnification) (eight_of s.angle)
 
-abbrev pub transform_of : Transform → Made (Option D.Strans)
-transform_of (T.Refused r) = refused r
-transform_of (T.Encoded s) = pure (said_of s)
+abbrev pub transform_of : Result Strans Refusal → Made (Option D.Strans)
+transform_of (Err r) = refused r
+transform_of (Ok s) = pure (said_of s)
 
 -- ---- bytes
 
@@ -49,7 +53,11 @@ unfoldable pub length_of : Bool → Bool → Bool → ℕ
 length_of reflection scaled turned = cond (reflection || scaled || turned) (6 + (real_length scaled + real_length turned)) 0
 
 abbrev pub strans_length : Strans → ℕ
-strans_length s = length_of s.reflection s.scaled s.turned
+strans_length s = length_of s.reflection (is_some s.magnification) (is_some s.angle)
+
+-- STRANS, MAG and ANGLE
+abbrev pub max_strans_length : ℕ
+max_strans_length = 30
 
 -- the same by the sheet alone
 abbrev pub transform_length : Float → Float → Bool → ℕ

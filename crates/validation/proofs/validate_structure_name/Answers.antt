@@ -1,29 +1,18 @@
--- `validate_structure_name` meets its contract: the name is one if the bytes from `i` on are. Assumes nothing.
-use native.Mathlib.Omega.{arith}
-use mathlib.Core.Path.{◌≡◌, sym, ◌∙◌}
-use mathlib.Core.Bool.{true, false}
-use mathlib.Core.List.{List}
-use Prim.Native.Nat.{ℕ, ◌-◌, ◌≤◌}
-use lib.ListN.{length, drop}
-use borrow.Author.Rules.{rules}
-use Rattle.cell.specs.Names.{name_bytes, is_name}
-use Rattle.validation.proofs.NameLaws.{name-start, name-size, name-turn, name-end}
-use Rattle.validation.proofs.validate_structure_name.Invariants.{Inv}
+-- `validate_structure_name` meets its contract: the length, then each byte. Assumes nothing.
+use Rattle.std.proofs.Common.{rules, tests}
+use Rattle.std.proofs.lemmas.Iterator.{YieldsList-from_slice}
+use Rattle.std.proofs.lemmas.Iterator.Search.{all_from_yields_List}
+use Rattle.cell.specs.Names.{name_byte, is_name}
+use Rattle.validation.proofs.NameLaws.{all-name_bytes}
 use Rattle.validation.proofs.validate_structure_name.Goals as goal
 
-pub loop-i-init : goal.loop-i-init
-loop-i-init c = record { within = search rules; rest = name-start _ (sym c.within.ensures ∙ c.if-within.true) }
-
-pub loop-i-preserved : goal.loop-i-preserved
-loop-i-preserved c =
-    record { within = search rules; rest = c.loop-i.invariant.rest ∙ name-turn c.args.s.now c.loop-i.i true (omega arith) (sym c.name_byte.ensures ∙ c.if-name_byte.true) }
-
-pub returns-else-name_byte : goal.returns-else-name_byte
-returns-else-name_byte c =
-    sym (c.loop-i.invariant.rest ∙ name-turn c.args.s.now c.loop-i.i false (omega arith) (sym c.name_byte.ensures ∙ c.if-name_byte.false))
-
 pub returns-then-within : goal.returns-then-within
-returns-then-within c = sym (c.loop-i.invariant.rest ∙ name-end _ _ c.loop-i-test.false)
+unfolding is_name
+returns-then-within c =
+    let s = c.args.s.now in
+    let each = all_from_yields_List name_byte _ _ c.all.result c.all.ensures.ran (YieldsList-from_slice s cc) (λ x b q k. search (rules, tests)) in
+    rw (← all-name_bytes s, ← c.within.ensures, c.if-within.true) each
 
-pub returns : goal.returns
-returns c = sym (name-size _ (sym c.within.ensures ∙ c.if-within.false))
+pub returns-else-within : goal.returns-else-within
+unfolding is_name
+returns-else-within c = rw (← c.within.ensures, c.if-within.false)

@@ -1,32 +1,27 @@
 -- `walk::measure_head` meets its contract: form, stamps, name, in this order. Assumes nothing.
-use borrow.Author.Rules.{rules}
-use Rattle.walk.proofs.HeadLaws.{head-ill, head_in, stamps-stop, name-stop, head-through, head_small}
-use mathlib.Core.Bool.{true, false, not}
-use mathlib.Core.Path.{◌≡◌, ap}
+use mathlib.Core.Bool.{true}
+use mathlib.Core.Path.{◌≡◌, subst}
+use Rattle.forms.specs.code.Checks.{HeadRead}
+use Rattle.walk.proofs.HeadLaws.{stamps-stop, name-stop, head-through, head_small}
 use Rattle.walk.proofs.measure_head.Goals as goal
 
-pub returns-then-not-dated : goal.returns-then-not-dated
-returns-then-not-dated c =
-    let a = c.args.b.now in
-    let h = c.head_of in
-    let t = c.stamps_fit-dated in
-    record { value = stamps-stop a h.result h.ensures c.in-Head.places c.in-Head.is t.result t.ensures (ap not c.if-not-dated.true); head_small = tt }
-
 -- that the stamps have passed is told by what is known there, whichever test stands first
-pub returns-then-not-named : goal.returns-then-not-named
-returns-then-not-named c =
-    let a = c.args.b.now in
-    let h = c.head_of in
-    let n = c.string_at-name in
-    let t = c.stamps_fit-dated in
-    let u = c.validate_structure_name-named in
-    let passed : not t.result ≡ false = ap not (let held : t.result ≡ true = cc in held) in
-    record { value = name-stop a h.result h.ensures c.in-Head.places c.in-Head.is t.result t.ensures passed n.result.now n.ensures u.result u.ensures (ap not c.if-not-named.true); head_small = tt }
+pub returns-then-not-named-clause-value : goal.returns-then-not-named-clause-value
+returns-then-not-named-clause-value c =
+    let read = subst (HeadRead c.args.b.now) c.in_ok-places.ensures.ok_part c.head_of.ensures in
+    let passed : c.stamps_fit-dated.result ≡ true = cc in
+    name-stop read c.stamps_fit-dated.ensures passed c.string_at-name.ensures c.validate_structure_name-named.ensures c.if-not-named.true
 
-pub returns-else-not-named : goal.returns-else-not-named
-returns-else-not-named c =
-    let a = c.args.b.now in
-    let h = c.head_of in
-    let n = c.string_at-name in
-    let t = c.stamps_fit-dated in
-    let u = c.validate_structure_name-named in record { value = head-through a h.result h.ensures c.in-Head.places c.in-Head.is t.result t.ensures (ap not c.if-not-dated.false) n.result.now n.ensures u.result u.ensures (ap not c.if-not-named.false); head_small = head_small n.result.now u.result u.ensures (ap not c.if-not-named.false) }
+pub returns-then-not-dated-clause-value : goal.returns-then-not-dated-clause-value
+returns-then-not-dated-clause-value c =
+    let read = subst (HeadRead c.args.b.now) c.in_ok-places.ensures.ok_part c.head_of.ensures in
+    stamps-stop read c.stamps_fit-dated.ensures c.if-not-dated.true
+
+pub returns-clause-value : goal.returns-clause-value
+returns-clause-value c =
+    let read = subst (HeadRead c.args.b.now) c.in_ok-places.ensures.ok_part c.head_of.ensures in
+    head-through read c.stamps_fit-dated.ensures c.if-not-dated.false c.string_at-name.ensures c.validate_structure_name-named.ensures c.if-not-named.false
+
+pub returns-clause-head_small : goal.returns-clause-head_small
+returns-clause-head_small c =
+    head_small c.string_at-name.result.now c.validate_structure_name-named.result c.validate_structure_name-named.ensures c.if-not-named.false

@@ -1,7 +1,6 @@
 -- Nothing where no entry stands, else its lead and its 33 bytes (PutLaws). Assumes nothing.
 use native.Mathlib.Omega.{arith}
 use lib.ListN.{length}
-use borrow.Author.Rules.{rules}
 use Rattle.walk.proofs.PutLaws.{entry-none, entry-room, entry-put}
 use Rattle.walk.proofs.put_entry.Goals as goal
 

@@ -27,4 +27,4 @@ put_string_at-requires c =
 pub returns : goal.returns
 returns c =
     let a = c.args in
-    head-put a.b.now a.places (λ i. omega (arith, c.shared_slice_known-1.given i)) c.requires.head_in.stamps-in c.string_at.ensures c.put_stamps_at-to.ensures c.put_string_at.ensures
+    head-put a.b.now a.places (λ i. let f = c.type_inv.b i in search rules) c.requires.head_in.stamps-in c.string_at.ensures c.put_stamps_at-to.ensures c.put_string_at.ensures

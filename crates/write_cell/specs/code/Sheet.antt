@@ -2,9 +2,8 @@
 use Rattle.std.specs.Prelude.{◌≡◌, List, ℕ, length, Float}
 use Rattle.conversion.specs.declared.GdsRoundingPolicy.{GdsRoundingPolicy}
 use Rattle.stream.specs.Structure.{Structure}
-use Rattle.cell.specs.declared.Answer.{Answer}
 use Rattle.cell.specs.Cell.{Result, write_sheet, fitting, out_after, report_after}
-use Rattle.cell.specs.Answer.{answer_of}
+use Rattle.cell.specs.Answer.{Answer, answer_of}
 
 abbrev pub fitted : GdsRoundingPolicy → Float → List ℕ → List ℕ → List ℕ → Result Structure
 fitted policy d sheet out report = fitting (length out) (length report) (write_sheet policy d sheet)

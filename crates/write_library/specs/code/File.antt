@@ -1,14 +1,12 @@
 -- The cells in turn and the file, measured and written, by the definition of writing a library (library/specs/Library). Assumes nothing.
-use Rattle.std.specs.Prelude.{◌≡◌, true, List, ℕ, ◌+◌, ◌*◌, ◌≤◌, T, length, Float}
+use Rattle.std.specs.Prelude.{◌≡◌, true, List, ℕ, ◌+◌, ◌*◌, ◌≤◌, T, length, Float, Ok, Err}
 use Rattle.conversion.specs.declared.GdsRoundingPolicy.{GdsRoundingPolicy}
 use Rattle.big_endian.specs.Buffer.{Wrote}
 use Rattle.sheet.specs.Blocks.{max_pairs}
 use Rattle.sheet.specs.Library.{cell_sheets}
 use Rattle.walk.specs.declared.Ends.{Ends}
-use Rattle.library.specs.declared.LibraryAnswer.{LibraryAnswer}
-use Rattle.library.specs.declared.LibraryAnswer.TheVariants as A
 use Rattle.library.specs.Library.{Result, stopped, written, WrittenCell, write_cells, LibraryFile, write_library_sheet, cells_bytes, file_bytes, report_from, entries_in, greatest_in, fitting, out_after, report_after}
-use Rattle.library.specs.Answer.{answer_of}
+use Rattle.library.specs.Answer.{LibraryAnswer, refused, accepted, answer_of}
 
 -- ---- measuring
 
@@ -18,13 +16,13 @@ max_front_length = 65592
 
 -- after n bytes, k entries and a greatest error g
 unfoldable pub totals_from : ℕ → ℕ → Float → Result (List WrittenCell) → LibraryAnswer
-totals_from n k g (stopped r c b) = A.Refused r c b
-totals_from n k g (written ws) = A.Accepted (n + length (cells_bytes ws)) (k + entries_in ws) (greatest_in g ws)
+totals_from n k g (stopped r c b) = refused r c b
+totals_from n k g (written ws) = accepted (n + length (cells_bytes ws)) (k + entries_in ws) (greatest_in g ws)
 
 -- at most 16,383 cells with 16,384 entries each: their bytes can be counted
 abbrev pub FewEntries : LibraryAnswer → Type 0
-FewEntries (A.Refused r c b) = T true
-FewEntries (A.Accepted length entries greatest) = entries ≤ max_pairs * max_pairs
+FewEntries (Err e) = T true
+FewEntries (Ok a) = a.entries ≤ max_pairs * max_pairs
 
 -- ---- the cells
 

@@ -28,8 +28,8 @@ returns-then-is_positive c =
     ∙ ap (convert_physical a.self.policy a.self.d at) (c.absolute_value.ensures ∙ ap physical same)
     ∙ by-positive a.self.policy a.self.d at a.u stays (ap positive units ∙ sym c.is_positive.ensures ∙ c.if-is_positive.true)
 
-pub returns : goal.returns
-returns c =
+pub returns-else-is_positive : goal.returns-else-is_positive
+returns-else-is_positive c =
     let stays : passed c.args.self.d c.args.u ≡ none = let a = c.args in elim c.match-u.branch [ in-Integer+else-units-d w ↦ integer-stays a.self.d a.u w.in-Integer.value w.in-Integer.units w.in-Integer.is w.if-units-d.false | in_default w ↦ float-stays a.self.d a.u w.in_default.field-0 w.in_default.field-1 w.in_default.is ] in
     let same : c.match-u.u ≡ c.args.u = elim c.match-u.branch [ in-Integer+else-units-d w ↦ w.u-is ∙ sym w.in-Integer.is | in_default w ↦ w.u-is ] in
     let units : units_of c.args.u ≡ c.units.result = sym (c.units.ensures ∙ ap units_of same) in

@@ -1,11 +1,9 @@
 -- `CoordinateConverter::database_value` meets its contract: where p is not finite the quotient is not either. Assumes nothing.
-use mathlib.Core.Path.{◌≡◌, sym, ◌∙◌, subst}
+use mathlib.Core.Path.{◌≡◌, sym, ◌∙◌}
 use mathlib.Core.Bool.{true}
-use lib.Dec.{T}
 use lib.Ieee.{binary64, div}
 use lib.Ieee.Scale.{finite}
 use Rattle.conversion.proofs.AnswerLaws.{value-finite, value-infinite}
-use borrow.Author.Rules.{rules}
 use Rattle.conversion.proofs.CoordinateConverter.database_value.Goals as goal
 
 pub returns-then-is_finite : goal.returns-then-is_finite

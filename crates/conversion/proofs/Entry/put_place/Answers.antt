@@ -1,6 +1,5 @@
 -- `Entry::put_place` meets its contract: six numbers in a row. Assumes nothing.
 use Rattle.big_endian.proofs.BufferLaws.{then_at}
-use borrow.Author.Rules.{rules}
 use Rattle.conversion.proofs.Entry.put_place.Goals as goal
 
 pub returns : goal.returns

@@ -5,9 +5,9 @@ use native.Mathlib.Nat.{le_of_lt, le_trans, le-add_left}
 use native.Mathlib.Omega.{arith}
 use lib.Count.{count_leading_zeros}
 use lib.Ieee.Nearest.{closest}
-use Rattle.mul_add.specs.code.Places.{word, unit_place, excess, normal_from, infinite_from, hidden, infinity}
+use Rattle.mul_add.specs.code.Places.{word, unit_place, excess, normal_from, infinite_from, hidden}
 use Rattle.mul_add.specs.code.Pattern.{Pattern}
-use Rattle.mul_add.proofs.LeadLaws.{Lead, lead, zeros-fit, lead-exact}
+use Rattle.mul_add.proofs.LeadLaws.{Lead, lead, lead-exact}
 use Rattle.mul_add.proofs.PatternLaws.{pattern-zero, pattern-finite, pattern-infinite}
 use Rattle.mul_add.proofs.pack.pattern.Goals as goal
 
@@ -34,9 +34,6 @@ module _ (m p : ℕ) (l : Lead m (count_leading_zeros 64 m)) where
       go : (e : ℕ) → normal_from ≤ e → e + excess ≡ unit_place + (e - normal_from)
       go e h = omega arith
 
-pub overflow_cast-z : goal.overflow_cast-z
-overflow_cast-z c = record { fits = zeros-fit (lead c.args.m c.if-m-eq0.false c.ranges.m.fits) }
-
 pub returns-then-m-eq0 : goal.returns-then-m-eq0
 returns-then-m-eq0 c = pattern-zero c.args.m c.args.power c.if-m-eq0.true
 
@@ -57,14 +54,6 @@ returns-then-e-lt-NORMAL_FROM c =
 
     none : (e q : ℕ) → e < normal_from → (e - normal_from) * hidden + q ≡ q
     none e q h = omega arith
-
-pub overflow_add-result : goal.overflow_add-result
-overflow_add-result c = record {
-  fits = go _ (normal c.args.m c.args.power (lead c.args.m c.if-m-eq0.false c.ranges.m.fits) _ c.if-e-lt-NORMAL_FROM.false c.if-e-lt-INFINITE_FROM.true c.half_even-then-e-lt-INFINITE_FROM.ensures).small;
-}
-  where
-    go : (r : ℕ) → r ≤ infinity → r < 2 ^ 64
-    go r h = omega arith
 
 pub returns-then-e-lt-INFINITE_FROM : goal.returns-then-e-lt-INFINITE_FROM
 returns-then-e-lt-INFINITE_FROM c = normal c.args.m c.args.power (lead c.args.m c.if-m-eq0.false c.ranges.m.fits) _ c.if-e-lt-NORMAL_FROM.false c.if-e-lt-INFINITE_FROM.true c.half_even-then-e-lt-INFINITE_FROM.ensures
