@@ -1,6 +1,6 @@
 // A test of ravenvanity_write.h, of the lines of ravenvanity_report.h, that measuring and writing agree, of what boxes, flags,
-// plex numbers and properties are written as, and of the limits of text types and properties. Prints nothing on standard output;
-// status 1 where something is not as it must be.
+// plex numbers and properties are written as, of the limits of text types and properties, and that infinite values are refused
+// without an invalid operation. Prints nothing on standard output; status 1 where something is not as it must be.
 #include "ravenvanity_report.h"
 #include "ravenvanity_sheet.h"
 #include <math.h>
@@ -9,6 +9,7 @@
 #include <stdio.h>
 #include <stdlib.h>
 #include <string.h>
+#include <xmmintrin.h>
 
 static bool memory_left = true;
 
@@ -686,6 +687,18 @@ static void test_text_types(void) {
     refused_text("a text's string before its place", written_text(255, 255, 513, NAN), 10);
 }
 
+// An infinite value is refused by comparing it: no operation is invalid, which a caller may have made fatal.
+static void test_infinities(void) {
+    int32_t least, greatest;
+    uint32_t clean, due, off;
+    _MM_SET_EXCEPTION_STATE(0);
+    hold("an infinite end", ravenvanity_convert_bounds(&least, &greatest, RAVENVANITY_NEAREST, 1e-9, -INFINITY, INFINITY) == RAVENVANITY_REFUSAL_NOT_FINITE);
+    hold("an infinite quotient", ravenvanity_convert_bounds(&least, &greatest, RAVENVANITY_NEAREST, 1e-9, 1e300, 1e300) == RAVENVANITY_REFUSAL_NOT_FINITE);
+    hold("an infinite pitch", ravenvanity_survey_pitch(&clean, &due, &off, RAVENVANITY_NEAREST, 1e-9, INFINITY, 2) == RAVENVANITY_REFUSAL_NOT_FINITE);
+    refused_text("an infinite place", written_text(255, 255, 1, INFINITY), RAVENVANITY_REFUSAL_NOT_FINITE);
+    hold("an invalid operation", (_MM_GET_EXCEPTION_STATE() & _MM_EXCEPT_INVALID) == 0);
+}
+
 int main(void) {
     test_entries();
     test_sides();
@@ -703,5 +716,6 @@ int main(void) {
     test_flags_refusals();
     test_properties();
     test_text_types();
+    test_infinities();
     return missed != 0;
 }

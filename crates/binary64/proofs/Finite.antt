@@ -1,4 +1,4 @@
--- Finite and positive, for code: a double is positive where it lies strictly between 0 and the infinity. Assumes nothing.
+-- Finite and positive, for code: a double is finite where it lies strictly between the two infinities, and positive where between 0 and the infinity. Assumes nothing.
 use mathlib.Core.Path.{◌≡◌, refl, sym, ◌∙◌}
 use mathlib.Core.Bool.{true, false, true≢false}
 use Prim.Native.Nat.{ℕ, zero, suc, ◌*◌, ◌<◌, ◌≤◌}
@@ -10,14 +10,21 @@ use lib.Ieee.Fits.{up_pos}
 use lib.Ieee.Positive.{positive}
 use lib.Ieee.Scale.{finite}
 use borrow.Author.Tests.{le-ltb, lt-ltb}
-use Rattle.std.specs.Float.{float_is_finite}
 
--- the library's test
-pub is_finite-is : (x : Float) → float_is_finite x ≡ finite x
-unfolding float_is_finite
-is_finite-is nan = refl
-is_finite-is (inf s) = refl
-is_finite-is (fin s m e) = refl
+-- ---- above minus infinity
+
+pub finite-below : (x : Float) → lt (of_bits binary64 0xfff0_0000_0000_0000) x ≡ true → lt x (of_bits binary64 0x7ff0_0000_0000_0000) ≡ finite x
+unfolding lt of_bits
+finite-below nan h = refl
+finite-below (inf true) h = absurd (true≢false (sym h))
+finite-below (inf false) h = refl
+finite-below (fin s m e) h = refl
+
+pub finite-not : (x : Float) → lt (of_bits binary64 0xfff0_0000_0000_0000) x ≡ false → false ≡ finite x
+unfolding lt of_bits
+finite-not nan h = refl
+finite-not (inf s) h = refl
+finite-not (fin s m e) h = absurd (true≢false h)
 
 -- 0 < m * u / d, as `lt` has it, where m is above 0
 above_zero : (m u d : ℕ) → 0 < u → ltb (0 * 1 * d) (m * u * 1) ≡ ltb 0 m

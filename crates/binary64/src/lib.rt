@@ -45,11 +45,11 @@ pub fn to_bits(x: f64) -> u64
     if x.is_nan() { NAN } else { x.to_bits() }
 }
 
-// Whether x is neither a NaN nor an infinity.
+// Whether x is neither a NaN nor an infinity. By comparing: the library's test subtracts, and an infinity less itself is an invalid operation, which a caller in C may have made fatal.
 pub fn is_finite(x: f64) -> bool
     ensures { result ≡ finite x }
 {
-    x.is_finite()
+    f64::NEG_INFINITY < x && x < f64::INFINITY
 }
 
 // Whether x is finite and above 0.

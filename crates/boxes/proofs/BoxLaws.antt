@@ -95,7 +95,7 @@ module _ (policy : GdsRoundingPolicy) (d : Float) (b : List ℕ) (s : BoxPlaces)
         ∙ ap (λ (m : Made D.Shape). run stopped e m ready) (pure-on checks (λ u. points >>= λ ps. pure (shaped ps)) tt h ∙ sym box-is)
 
   -- a box that succeeds has passed its checks
-  passed : Succeeds (write_box policy d box) → pure tt ≡ checks
+  pub passed : Succeeds (write_box policy d box) → pure tt ≡ checks
   unfolding write_box box_at
   passed w = both-yield s.layer s.boxtype (then-steps (yields w)).first
 

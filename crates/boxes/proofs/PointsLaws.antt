@@ -4,12 +4,13 @@ use mathlib.Core.List.{List, [], ◌∷◌}
 use Prim.Native.Nat.{ℕ, suc}
 use lib.IntN.{ℤ, pos}
 use lib.Ieee.{Float}
-use Rattle.std.specs.Prelude.{Result, Ok, Err}
+use Rattle.std.specs.Prelude.{Result, Ok, Err, Some}
 use Rattle.refusal.specs.declared.Refusal.{Refusal}
 use Rattle.units.specs.declared.Unit.{Unit}
 use Rattle.units.specs.Point.{Point}
 use Rattle.conversion.specs.declared.Conversion.{Conversion}
 use Rattle.conversion.specs.declared.Conversion.TheVariants as C
+use Rattle.conversion.specs.declared.DatabasePoint.{DatabasePoint}
 use Rattle.conversion.specs.declared.Entry.{Entry}
 use Rattle.conversion.specs.declared.GdsRoundingPolicy.{GdsRoundingPolicy}
 use Rattle.conversion.specs.Convert.{Spot, convert_unit}
@@ -21,8 +22,8 @@ use Rattle.conversion.specs.code.Fold.{run}
 use Rattle.conversion.proofs.FoldLaws.{run-pure}
 use Rattle.cell.specs.Write.{box_points}
 use Rattle.coordinate.specs.declared.Pointed.{Pointed}
-use Rattle.coordinate.specs.code.Coordinate.{GivesPoint, both}
-use Rattle.coordinate.proofs.ValueLaws.{point-recorded}
+use Rattle.coordinate.specs.code.Coordinate.{GivesPoint, both, plain_of}
+use Rattle.coordinate.proofs.ValueLaws.{point-recorded, plain-made}
 use Rattle.coordinate.proofs.TurnLaws.{spread, others, first-met}
 use Rattle.steps.specs.code.Ready.{Ready, stopped, ready}
 use Rattle.boxes.specs.declared.Corners.{Corners}
@@ -57,6 +58,18 @@ values k e (Ok (C.Quantized x p t)) (Ok (C.Quantized y q u)) v g = ap point_in g
 row : {p0 p1 p2 p3 p4 : Point ℤ} {x1 y1 x2 y2 : ℤ} → p0 ≡ record { x = x1; y = y1 } → p1 ≡ record { x = x2; y = y1 } → p2 ≡ record { x = x2; y = y2 } → p3 ≡ record { x = x1; y = y2 } → p4 ≡ record { x = x1; y = y1 }
     → (p0 ∷ p1 ∷ p2 ∷ p3 ∷ p4 ∷ []) ≡ box_points p0 p2
 row h0 h1 h2 h3 h4 = rw (h0, h1, h2, h3, h4)
+
+-- where neither coordinate of two points deviates, neither does that of one's x and the other's y
+crossed : (cx cy dx dy : Result Conversion Refusal) (a b : DatabasePoint) → Some a ≡ plain_of cx cy → Some b ≡ plain_of dx dy → Some (record { x = a.x; y = b.y }) ≡ plain_of cx dy
+crossed (Ok (C.Converted x)) (Ok (C.Converted y)) (Ok (C.Converted z)) (Ok (C.Converted w)) a b g h = cc
+crossed (Ok (C.Converted x)) (Ok (C.Converted y)) (Ok (C.Converted z)) (Ok (C.Quantized w p t)) a b g h = cc
+crossed (Ok (C.Converted x)) (Ok (C.Converted y)) (Ok (C.Converted z)) (Err r) a b g h = cc
+crossed (Ok (C.Converted x)) (Ok (C.Converted y)) (Ok (C.Quantized z p t)) dy a b g h = cc
+crossed (Ok (C.Converted x)) (Ok (C.Converted y)) (Err r) dy a b g h = cc
+crossed (Ok (C.Converted x)) (Ok (C.Quantized y p t)) dx dy a b g h = cc
+crossed (Ok (C.Converted x)) (Err r) dx dy a b g h = cc
+crossed (Ok (C.Quantized x p t)) cy dx dy a b g h = cc
+crossed (Err r) cy dx dy a b g h = cc
 
 -- what is left of the whole: the points from place i on, after those that f puts before them
 record Left (policy : GdsRoundingPolicy) (d : Float) (whole : Ready (List (Point ℤ))) (i : ℕ) (us : List (Point Unit)) (f : List (Point ℤ) → List (Point ℤ)) (e : Entry) : Type 0 where
@@ -121,3 +134,13 @@ module _ (policy : GdsRoundingPolicy) (d : Float) (p q : Point Unit) (c : Corner
               let w = l.is ∙ run-pure stopped v4.entry [] (λ qs e'. ready (grid_point_of v0.point ∷ grid_point_of v1.point ∷ grid_point_of v2.point ∷ grid_point_of v3.point ∷ grid_point_of v4.point ∷ qs) e') in
               let r = row (values 0 e c.x1 c.y1 v0 g0) (values 1 v0.entry c.x2 c.y1 v1 g1) (values 2 v1.entry c.x2 c.y2 v2 g2) (values 3 v2.entry c.x1 c.y2 v3 g3) (values 4 v3.entry c.x1 c.y1 v4 g4) in
               sym (w ∙ ap (λ (qs : List (Point ℤ)). ready qs v4.entry) r)
+
+  -- and where neither corner deviates
+  pub plain-counted : (a b : DatabasePoint) → Some a ≡ plain_of c.x1 c.y1 → Some b ≡ plain_of c.x2 c.y2 → ready (corners_of a b) e ≡ walk
+  plain-counted a b g h =
+      all-counted
+      (record { point = a; entry = e }) (plain-made point_field 0 e c.x1 c.y1 a g)
+      (record { point = record { x = b.x; y = a.y }; entry = e }) (plain-made point_field 1 e c.x2 c.y1 _ (crossed c.x2 c.y2 c.x1 c.y1 b a h g))
+      (record { point = b; entry = e }) (plain-made point_field 2 e c.x2 c.y2 b h)
+      (record { point = record { x = a.x; y = b.y }; entry = e }) (plain-made point_field 3 e c.x1 c.y2 _ (crossed c.x1 c.y1 c.x2 c.y2 a b g h))
+      (record { point = a; entry = e }) (plain-made point_field 4 e c.x1 c.y1 a g)

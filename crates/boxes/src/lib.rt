@@ -68,6 +68,18 @@ fn count_points(corners: Corners, entry: Entry) -> Result<BoxValues, Refusal>
     ensures { (policy : GdsRoundingPolicy) (d : Float) (p q : Point Unit) → Converted policy d p q corners → points_of result ≡ run stopped entry (write_points policy d 0 (box_points p q)) ready }
 {
     let Corners { x1, y1, x2, y2 } = corners;
+    // Where neither corner deviates no point does: the entry stays as it is, and is not handed from point to point.
+    let plain = (
+        coordinate::plain_point(x1, y1),
+        coordinate::plain_point(x2, y2),
+    );
+    if let (Some(first), Some(second)) = plain {
+        return Ok(BoxValues {
+            first,
+            second,
+            entry,
+        });
+    }
     let first = coordinate::record_point(x1, y1, POINT_FIELD, 0, entry)?;
     let right = coordinate::record_point(x2, y1, POINT_FIELD, 1, first.entry)?;
     let second = coordinate::record_point(x2, y2, POINT_FIELD, 2, right.entry)?;

@@ -57,6 +57,13 @@ within a b = leb a (b + 1) && leb b (a + 1)
 pub within-diff : (a b : ℕ) → leb (abs_diff a b) 1 ≡ within a b
 within-diff a b = within-one (abs_diff a b) a b (λ l. record { left = omega arith; right = omega arith }) (λ n. omega arith)
 
+-- by the side on which one lies of the other
+pub within-below : (a b : ℕ) → a < b → leb (b - a) 1 ≡ within a b
+within-below a b h = within-one (b - a) a b (λ l. record { left = omega arith; right = omega arith }) (λ n. omega arith)
+
+pub within-above : (a b : ℕ) → b ≤ a → leb (a - b) 1 ≡ within a b
+within-above a b h = within-one (a - b) a b (λ l. record { left = omega arith; right = omega arith }) (λ n. omega arith)
+
 step-lower : (x y : Float) → T (fits binary64 x) → T (finite x) → T (fits binary64 y) → T (finite y) → negative x ≡ negative y → within (lower x) (lower y) ≡ one_step x y
 unfolding one_step
 step-lower x y F f G g e = go (negative x) refl
@@ -112,6 +119,17 @@ snap-step x F f n h =
     plain : (s : Bool) → to_bits binary64 w ≡ lower (round binary64 s n 1)
     plain true = ap (to_bits binary64) (sym (ap abs (sym (double-minus true n refl)) ∙ abs_neg w ∙ itself))
     plain false = ap (to_bits binary64) (sym (ap abs (sym (double-plus false n refl)) ∙ itself))
+
+-- the same by the difference of the bits, or by the side on which x's lie: for `on_grid`'s test and for one by branches
+module _ (x : Float) (n : ℕ) (F : T (fits binary64 x)) (f : T (finite x)) (h : n < 2 ^ 53) where
+  pub step_apart : (d : ℕ) → d ≡ abs_diff (to_bits binary64 x % 2 ^ 63) (to_bits binary64 (of_int binary64 (pos n))) → leb d 1 ≡ one_step x (round binary64 (negative x) n 1)
+  step_apart d e = ap (λ (z : ℕ). leb z 1) e ∙ within-diff _ _ ∙ snap-step x F f n h
+
+  pub step_below : to_bits binary64 x % 2 ^ 63 < to_bits binary64 (of_int binary64 (pos n)) → leb (to_bits binary64 (of_int binary64 (pos n)) - to_bits binary64 x % 2 ^ 63) 1 ≡ one_step x (round binary64 (negative x) n 1)
+  step_below l = within-below _ _ l ∙ snap-step x F f n h
+
+  pub step_above : to_bits binary64 (of_int binary64 (pos n)) ≤ to_bits binary64 x % 2 ^ 63 → leb (to_bits binary64 x % 2 ^ 63 - to_bits binary64 (of_int binary64 (pos n))) 1 ≡ one_step x (round binary64 (negative x) n 1)
+  step_above l = within-above _ _ l ∙ snap-step x F f n h
 
 -- the nearest whole number of a double below 2 ^ 52
 pub nearest-small-enough : (m j n : ℕ) → m < 2 ^ 53 → j < 1074 → n ≡ (2 * (m * 2 ^ j) + unit) / (2 * unit) → n < 2 ^ 53

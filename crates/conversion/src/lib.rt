@@ -78,6 +78,9 @@ pub const Y_AXIS: u8 = 1;
 
 pub const NO_AXIS: u8 = 2;
 
+// From this power of two on, in units of 2 ^ -1074, a double is a whole number of 2 ^ 52 or more.
+const WHOLE: u64 = binary64::ONE_POWER;
+
 // The database value, or that with a deviation that counts.
 #[derive(Clone, Copy, Debug, PartialEq)]
 pub enum Conversion {
@@ -132,6 +135,7 @@ fn ranged(z: i64) -> Result<i32, Refusal>
 }
 
 // Whether s is within one step of the whole number n with the sign of s: their bits but the sign differ by one at most.
+#[tactic(auto, using(crate::proofs::SnapLaws::step_apart, crate::proofs::SnapLaws::step_below, crate::proofs::SnapLaws::step_above))]
 fn on_grid(s: f64, n: u64) -> bool
     requires s_finite { T (finite s) }
     requires n_bound { n < 2 ^ 53 }
@@ -151,8 +155,7 @@ fn grid_value(policy: GdsRoundingPolicy, s: f64) -> Result<i32, Refusal>
     let negative = u.negative;
     let digits = u.digits;
     let power = u.power;
-    // a whole number of 2 ^ 52 or more
-    if power >= binary64::ONE_POWER {
+    if power >= WHOLE {
         return Err(Refusal::OutOfRange);
     }
     let n = binary64::size_toward(Direction::Nearest, negative, digits, power);

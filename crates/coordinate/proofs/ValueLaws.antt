@@ -114,7 +114,7 @@ module _ (f k : ℕ) (cx cy : Result Conversion Refusal) (e : Entry) where
 
 -- ---- a point with no deviation that counts leaves the entry as it is
 
-plain-made : (f k : ℕ) (e : Entry) (cx cy : Result Conversion Refusal) (p : DatabasePoint) → Some p ≡ plain_of cx cy → GivesPoint e (both f k cx cy) (Ok (record { point = p; entry = e }))
+pub plain-made : (f k : ℕ) (e : Entry) (cx cy : Result Conversion Refusal) (p : DatabasePoint) → Some p ≡ plain_of cx cy → GivesPoint e (both f k cx cy) (Ok (record { point = p; entry = e }))
 unfolding both ◌>>=◌ run noted_all
 plain-made f k e (Ok (C.Converted a)) (Ok (C.Converted b)) p g = record { is = cc; grown = omega arith }
 plain-made f k e (Ok (C.Converted a)) (Err r) p g = cc

@@ -10,6 +10,7 @@ use Rattle.big_endian.specs.Big.{number_at}
 use Rattle.std.specs.Prelude as Code
 use Rattle.std.specs.Prelude.{Result, Ok, Err, Some, None}
 use Rattle.std.specs.Option.{ok_or}
+use Rattle.std.specs.Result.{is_err}
 use Rattle.refusal.specs.declared.Refusal.{Refusal}
 use Rattle.refusal.specs.declared.Refusal.TheVariants as R
 use Rattle.conversion.specs.declared.Deviation.{Deviation}
@@ -76,6 +77,14 @@ module _ (policy : GdsRoundingPolicy) (d : Float) (b : List ℕ) (s : BodyPlaces
   pub body_refused : (x : Refusal) → Measures body_bytes e body (Err x) → Answers (Err x)
   unfolding write_parts
   body_refused x h = measure-first-refused body_bytes tail_bytes parts_bytes join split e body properties (Err x) x h refl
+
+  both-stop : (r : Result Measured Refusal) → Measures body_bytes e body r → is_err r ≡ true → run Err e (write_parts policy d (body_at b s) (properties_at b q)) (sizing parts_bytes) ≡ r
+  both-stop (Err x) h i = sym (body_refused x h)
+  both-stop (Ok v) h i = cc
+
+  -- for `grind`: its left side shows every argument
+  pub body_stops : is_err (run Err e body (sizing body_bytes)) ≡ true → run Err e (write_parts policy d (body_at b s) (properties_at b q)) (sizing parts_bytes) ≡ run Err e body (sizing body_bytes)
+  body_stops h = both-stop (run Err e body (sizing body_bytes)) refl h
 
   module _ (v : Measured) (h : Measures body_bytes e body (Ok v)) where
     pub tail-refused : (x : Refusal) → Measures tail_bytes v.entry properties (Err x) → Answers (Err x)

@@ -41,6 +41,7 @@ fn options_length(options: Options) -> usize
 // ---- measuring
 
 // Its body, then its properties.
+#[tactic(auto, using(crate::proofs::PartLaws::body_stops))]
 fn measure_parts(
     converter: CoordinateConverter,
     b: &[u8],

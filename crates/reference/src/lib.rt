@@ -37,7 +37,7 @@ const CORNERS_LENGTH: u16 = 28;
 
 // The values of the records that the sheet does not hold as they are, with the entry after them.
 #[derive(Clone, Copy)]
-enum ReferenceValues {
+pub enum ReferenceValues {
     Single {
         strans: Strans,
         point: DatabasePoint,

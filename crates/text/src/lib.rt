@@ -31,10 +31,10 @@ const BACK_LENGTH: usize = 16;
 
 // The values of the records that the sheet does not hold as they are, with the entry after them.
 #[derive(Clone, Copy)]
-struct TextValues {
-    strans: Strans,
-    point: DatabasePoint,
-    entry: Entry,
+pub struct TextValues {
+    pub strans: Strans,
+    pub point: DatabasePoint,
+    pub entry: Entry,
 }
 
 // Whether the string is too long.

@@ -129,7 +129,8 @@ fn put_cells(
     let mut to: usize = 0;
     let mut at: usize = 0;
     for cell in 0..cells {
-        let b = sheet.block(cell + 1);
+        let next = cell + 1;
+        let b = sheet.block(next);
         let ends = put_cell(converter, b, cell as u32, &mut out[to..], &mut report[at..]);
         to += ends.out;
         at += ends.report;

@@ -1,7 +1,13 @@
--- The points in turn, each of which may be refused. Assumes nothing.
+-- The points of corners that do not deviate; else the points in turn, each of which may be refused. Assumes nothing.
+use mathlib.Core.Path.{sym, ◌∙◌}
 use Rattle.std.proofs.lemmas.Result.{err_from_is_err_and}
-use Rattle.boxes.proofs.PointsLaws.{first-refused, second-refused, third-refused, fourth-refused, fifth-refused, all-counted}
+use Rattle.boxes.proofs.PointsLaws.{first-refused, second-refused, third-refused, fourth-refused, fifth-refused, all-counted, plain-counted}
 use Rattle.boxes.proofs.count_points.Goals as goal
+
+pub returns-in-Some-Some : goal.returns-in-Some-Some
+returns-in-Some-Some c =
+    let w = c.in-Some-Some in
+    λ policy d p q made. plain-counted policy d p q c.args.corners made c.args.entry w.first w.second (sym w.is-0 ∙ c.plain_point.ensures) (sym w.is-1 ∙ c.plain_point-2.ensures)
 
 pub returns : goal.returns
 returns c = λ policy d p q made. all-counted policy d p q c.args.corners made c.args.entry _ c.in_ok-first.ensures _ c.in_ok-right.ensures _ c.in_ok-second.ensures _ c.in_ok-left.ensures _ c.in_ok-last.ensures

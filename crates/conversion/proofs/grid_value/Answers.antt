@@ -15,15 +15,15 @@ use borrow.Author.Rules.{rules}
 use Rattle.conversion.proofs.grid_value.Goals as goal
 use Rattle.conversion.proofs.grid_value.Goals.{in_default, in-Floor, in-Ceil, in-Nearest, in-Nearest-2}
 
-pub returns-then-power-ge-ONE_POWER : goal.returns-then-power-ge-ONE_POWER
-returns-then-power-ge-ONE_POWER c =
+pub returns-then-power-ge-WHOLE : goal.returns-then-power-ge-WHOLE
+returns-then-power-ge-WHOLE c =
     let u = c.unpack-u in
-    grid-far c.args.s u.result.negative u.result.digits u.result.power u.ensures (subst T (sym c.well_formed.1.0.1) tt) c.requires c.if-power-ge-ONE_POWER.true c.args.policy
+    grid-far c.args.s u.result.negative u.result.digits u.result.power u.ensures (subst T (sym c.well_formed.1.0.1) tt) c.requires c.if-power-ge-WHOLE.true c.args.policy
 
 pub on_grid-requires : goal.on_grid-requires
 on_grid-requires c =
     let u = c.unpack-u in
-    record { s_finite = c.requires; n_bound = nearest-small-enough u.result.digits u.result.power c.size_toward-n.result u.ensures.digits c.if-power-ge-ONE_POWER.false c.size_toward-n.ensures }
+    record { s_finite = c.requires; n_bound = nearest-small-enough u.result.digits u.result.power c.size_toward-n.result u.ensures.digits c.if-power-ge-WHOLE.false c.size_toward-n.ensures }
 
 pub returns-in-ErrorIfOffGrid : goal.returns-in-ErrorIfOffGrid
 returns-in-ErrorIfOffGrid c =
@@ -34,11 +34,11 @@ pub with_sign-requires : goal.with_sign-requires
 with_sign-requires c =
     let u = c.unpack-u in
     let n = c.size_toward-n in
-    let small : n.result < 2 ^ 63 = lt_trans (nearest-small-enough u.result.digits u.result.power n.result u.ensures.digits c.if-power-ge-ONE_POWER.false n.ensures) (lit< tt) in
+    let small : n.result < 2 ^ 63 = lt_trans (nearest-small-enough u.result.digits u.result.power n.result u.ensures.digits c.if-power-ge-WHOLE.false n.ensures) (lit< tt) in
     elim c.match-policy.branch [
       | in_default w ↦ subst (λ (k : ℕ). k < 2 ^ 63) (sym w.size-is) small
-      | in-Floor w ↦ subst (λ (k : ℕ). k < 2 ^ 63) (sym w.size-is) (lt_of_le_of_lt (cut_fits u.result.negative u.result.digits u.result.power w.size_toward-size.result u.ensures.digits c.if-power-ge-ONE_POWER.false w.size_toward-size.ensures) (lit< tt))
-      | in-Ceil w ↦ subst (λ (k : ℕ). k < 2 ^ 63) (sym w.size-is) (lt_of_le_of_lt (cut_fits (not u.result.negative) u.result.digits u.result.power w.size_toward-size-in-Ceil.result u.ensures.digits c.if-power-ge-ONE_POWER.false w.size_toward-size-in-Ceil.ensures) (lit< tt))
+      | in-Floor w ↦ subst (λ (k : ℕ). k < 2 ^ 63) (sym w.size-is) (lt_of_le_of_lt (cut_fits u.result.negative u.result.digits u.result.power w.size_toward-size.result u.ensures.digits c.if-power-ge-WHOLE.false w.size_toward-size.ensures) (lit< tt))
+      | in-Ceil w ↦ subst (λ (k : ℕ). k < 2 ^ 63) (sym w.size-is) (lt_of_le_of_lt (cut_fits (not u.result.negative) u.result.digits u.result.power w.size_toward-size-in-Ceil.result u.ensures.digits c.if-power-ge-WHOLE.false w.size_toward-size-in-Ceil.ensures) (lit< tt))
       | in-Nearest w ↦ subst (λ (k : ℕ). k < 2 ^ 63) (sym w.size-is) small
       | in-Nearest-2 w ↦ subst (λ (k : ℕ). k < 2 ^ 63) (sym w.size-is) small
     ]

@@ -5,7 +5,7 @@ use Prim.Native.Nat.{ℕ}
 use native.Mathlib.Omega.{arith}
 use Rattle.std.proofs.lemmas.Result.{err_from_is_err_and}
 use Rattle.steps.specs.code.Steps.{through}
-use Rattle.elements.proofs.PartLaws.{body_refused, tail-refused, both-measured, both_small}
+use Rattle.elements.proofs.PartLaws.{tail-refused, both-measured, both_small}
 use Rattle.elements.proofs.measure_parts.Goals as goal
 
 pub overflow_add-length : goal.overflow_add-length
@@ -14,12 +14,6 @@ overflow_add-length c =
     let k = both_small a.converter.policy a.converter.d a.b.now a.body a.properties a.entry _ c.in_ok-front.ensures _ c.in_ok-tail.ensures c.requires.element_in in
     let l = c.requires.b_len_bound in
     omega arith
-
-pub returns-in_err-front : goal.returns-in_err-front
-returns-in_err-front c =
-    let a = c.args in
-    let e = err_from_is_err_and c.from_residual.result c.from_residual.ensures.1 in
-    rw (e.1, e.2) (record { measures = body_refused a.converter.policy a.converter.d a.b.now a.body a.properties a.entry _ c.in_err-front.ensures; short = tt })
 
 pub returns-in_err-tail : goal.returns-in_err-tail
 returns-in_err-tail c =
