@@ -12,6 +12,7 @@ use Rattle.refusal.specs.declared.Refusal.TheVariants as R
 use Rattle.units.specs.declared.Unit as U
 use Rattle.units.specs.Point.{Point, endpoint}
 use Rattle.conversion.specs.declared.Conversion.{Conversion}
+use Rattle.conversion.specs.declared.Conversion.TheVariants as C
 use Rattle.conversion.specs.declared.Entry.{Entry}
 use Rattle.conversion.specs.declared.GdsRoundingPolicy.{GdsRoundingPolicy}
 use Rattle.conversion.specs.Array.{physical_point, endpoint_physical, write_physical, write_endpoint}
@@ -49,7 +50,32 @@ module _ (p : Point U.Unit) where
     pub physical-both : (y : Float) → pure y ≡ physical_value p.y → pure (record { x = x; y = y }) ≡ physical_point p
     physical-both y i = pure-on (physical_value p.y) (λ y. pure (record { x = x; y = y })) y i ∙ first
 
+-- ---- two coordinates, the first of which may stop before the second is asked, and the second after it
+
+module _ {A : Type 0} (g : ℤ → ℤ → A) (at : Spot) (m n : Made ℤ) (r : Refusal) where
+  pub x-stops : refused r ≡ m → refused r ≡ (m >>= λ x. n >>= λ y. pure (g x y))
+  x-stops h = refused-on m (λ x. n >>= λ y. pure (g x y)) r h
+
+  pub y-stops : (c : Conversion) → outcome at (Ok c) ≡ m → refused r ≡ n → refused r ≡ (m >>= λ x. n >>= λ y. pure (g x y))
+  unfolding ◌>>=◌
+  y-stops (C.Converted q) h k = ap₂ (λ (m n : Made ℤ). m >>= λ x. n >>= λ y. pure (g x y)) h k
+  y-stops (C.Quantized q p t) h k = ap₂ (λ (m n : Made ℤ). m >>= λ x. n >>= λ y. pure (g x y)) h k
+
 -- ---- a point on the grid, by the conversions of its coordinates
+
+module _ (policy : GdsRoundingPolicy) (d : Float) (f : ℕ) (p : Point Float) (e : Entry) (r : Refusal) where
+  stopped : refused r ≡ write_physical policy d f p → GivesArrayPoint e p (write_physical policy d f p) (Err r)
+  unfolding run
+  stopped h = record { is = ap (λ (m : Made (Point ℤ)). run Err e m (converted p)) h; grown = tt }
+
+  pub physical-x-stops : refused r ≡ convert_physical policy d (spot f x_axis 0) p.x → GivesArrayPoint e p (write_physical policy d f p) (Err r)
+  unfolding write_physical
+  physical-x-stops h = stopped (x-stops (λ x y. record { x = x; y = y }) (spot f x_axis 0) _ _ r h)
+
+  pub physical-y-stops : (c : Conversion) → outcome (spot f x_axis 0) (Ok c) ≡ convert_physical policy d (spot f x_axis 0) p.x
+      → refused r ≡ convert_physical policy d (spot f y_axis 0) p.y → GivesArrayPoint e p (write_physical policy d f p) (Err r)
+  unfolding write_physical
+  physical-y-stops c h k = stopped (y-stops (λ x y. record { x = x; y = y }) (spot f x_axis 0) _ _ r c h k)
 
 module _ (policy : GdsRoundingPolicy) (d : Float) (f : ℕ) (p : Point Float) (e : Entry) (cx cy : Result Conversion Refusal)
     (hx : (s : Spot) → outcome s cx ≡ convert_physical policy d s p.x) (hy : (s : Spot) → outcome s cy ≡ convert_physical policy d s p.y) where
@@ -98,22 +124,31 @@ only e (refused r) n q h k = refl
 only e (made a vs) (refused r) q h k = refl
 only e (made a vs) (made b ws) q h k = ap₂ (λ (x y : ℤ). pointed (record { x = x; y = y }) (noted_all e (vs ++ (ws ++ [])))) h k
 
-module _ (policy : GdsRoundingPolicy) (d : Float) (f : ℕ) (o a : Point ℤ) (n : ℕ) (po pa : Point Float) (e : Entry) (cx cy : Result Conversion Refusal) where
+module _ (policy : GdsRoundingPolicy) (d : Float) (f : ℕ) (o a : Point ℤ) (n : ℕ) (po pa : Point Float) (e : Entry) where
   abbrev end-x : Made ℤ
   end-x = array_endpoint d (spot f x_axis 0) o.x a.x n (endpoint_physical pa.x n po.x)
 
   abbrev end-y : Made ℤ
   end-y = array_endpoint d (spot f y_axis 0) o.y a.y n (endpoint_physical pa.y n po.y)
 
-  pub end-recorded : outcome (spot f x_axis 0) cx ≡ end-x → outcome (spot f y_axis 0) cy ≡ end-y
-      → (r : Result Pointed Refusal) → GivesPoint e (both f 0 cx cy) r → Ends e (end_of o a n) (write_endpoint policy d f o a n po pa) r
-  unfolding both write_endpoint
-  end-recorded hx hy r h =
-      record {
-        is = h.is
-            ∙ ap₂ (λ (m n : Made ℤ). run Err e (m >>= λ x. n >>= λ y. pure (record { x = x; y = y })) pointed) hx hy
-            ∙ only e end-x end-y (end_of o a n)
-            (endpoint-answers d (spot f x_axis 0) o.x a.x n (endpoint_physical pa.x n po.x) e)
-            (endpoint-answers d (spot f y_axis 0) o.y a.y n (endpoint_physical pa.y n po.y) e);
-        grown = h.grown;
-      }
+  pub end-x-stops : (r : Refusal) → refused r ≡ end-x → Ends e (end_of o a n) (write_endpoint policy d f o a n po pa) (Err r)
+  unfolding run write_endpoint
+  end-x-stops r h = record { is = ap (λ (m : Made Done). run Err e m (λ t e'. pointed (end_of o a n) e')) (x-stops (λ x y. tt) (spot f x_axis 0) end-x end-y r h); grown = tt }
+
+  pub end-y-stops : (r : Refusal) (c : Conversion) → outcome (spot f x_axis 0) (Ok c) ≡ end-x → refused r ≡ end-y → Ends e (end_of o a n) (write_endpoint policy d f o a n po pa) (Err r)
+  unfolding run write_endpoint
+  end-y-stops r c h k = record { is = ap (λ (m : Made Done). run Err e m (λ t e'. pointed (end_of o a n) e')) (y-stops (λ x y. tt) (spot f x_axis 0) end-x end-y r c h k); grown = tt }
+
+  module _ (cx cy : Result Conversion Refusal) where
+    pub end-recorded : outcome (spot f x_axis 0) cx ≡ end-x → outcome (spot f y_axis 0) cy ≡ end-y
+        → (r : Result Pointed Refusal) → GivesPoint e (both f 0 cx cy) r → Ends e (end_of o a n) (write_endpoint policy d f o a n po pa) r
+    unfolding both write_endpoint
+    end-recorded hx hy r h =
+        record {
+          is = h.is
+              ∙ ap₂ (λ (m n : Made ℤ). run Err e (m >>= λ x. n >>= λ y. pure (record { x = x; y = y })) pointed) hx hy
+              ∙ only e end-x end-y (end_of o a n)
+              (endpoint-answers d (spot f x_axis 0) o.x a.x n (endpoint_physical pa.x n po.x) e)
+              (endpoint-answers d (spot f y_axis 0) o.y a.y n (endpoint_physical pa.y n po.y) e);
+          grown = h.grown;
+        }

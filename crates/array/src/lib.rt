@@ -81,9 +81,10 @@ fn convert_physical_point(
     requires { Spare 2 entry }
     ensures { GivesArrayPoint entry (point_of p) (write_physical converter.policy converter.d field (point_of p)) result }
 {
-    let x = converter.convert_physical(p.x);
-    let y = converter.convert_physical(p.y);
-    let database = coordinate::record_point(x, y, field, 0, entry)?;
+    // Where x is refused y is not worked out: nothing of it can overflow.
+    let x = converter.convert_physical(p.x)?;
+    let y = converter.convert_physical(p.y)?;
+    let database = coordinate::record_point(Ok(x), Ok(y), field, 0, entry)?;
     Ok(Converted {
         point: ArrayPoint {
             physical: p,
@@ -108,10 +109,10 @@ fn convert_endpoint(
     let o = origin.database;
     let s = step.database;
     let end_x = conversion::endpoint_physical(step.physical.x, n, origin.physical.x);
-    let x = converter.checked_array_endpoint(o.x, s.x, n, end_x);
+    let x = converter.checked_array_endpoint(o.x, s.x, n, end_x)?;
     let end_y = conversion::endpoint_physical(step.physical.y, n, origin.physical.y);
-    let y = converter.checked_array_endpoint(o.y, s.y, n, end_y);
-    coordinate::record_point(x, y, field, 0, entry)
+    let y = converter.checked_array_endpoint(o.y, s.y, n, end_y)?;
+    coordinate::record_point(Ok(x), Ok(y), field, 0, entry)
 }
 
 // ---- the array, part by part
