@@ -1,6 +1,6 @@
 // A test of ravenvanity_write.h, of the lines of ravenvanity_report.h, that measuring and writing agree, of what boxes, flags,
 // plex numbers and properties are written as, of the limits of text types and properties, and that infinite values are refused
-// without an invalid operation. Prints nothing on standard output; status 1 where something is not as it must be.
+// without an invalid operation, and an array far off without an overflow. Prints nothing on standard output; status 1 where something is not as it must be.
 #include "ravenvanity_report.h"
 #include "ravenvanity_sheet.h"
 #include <math.h>
@@ -699,6 +699,23 @@ static void test_infinities(void) {
     hold("an invalid operation", (_MM_GET_EXCEPTION_STATE() & _MM_EXCEPT_INVALID) == 0);
 }
 
+// Where an array's x is refused its y is not worked out, whose quotient would overflow.
+static void test_overflow(void) {
+    struct ravenvanity_reference array = ravenvanity_new_reference("B", ravenvanity_double_xy(1e10, 1e300, 1));
+    array.columns = 2;
+    array.column_spacing = ravenvanity_double_xy(1, 0, 1);
+    struct ravenvanity_sheet sheet = ravenvanity_new_sheet();
+    ravenvanity_start_cell(&sheet, "A", NULL);
+    ravenvanity_add_reference(&sheet, array);
+    hold("an array's cell sheet", ravenvanity_finish(&sheet) == RAVENVANITY_NO_FAULT);
+    size_t block, length, entries;
+    double greatest;
+    _MM_SET_EXCEPTION_STATE(0);
+    hold("an array far off", ravenvanity_measure_cell(sheet.bytes, sheet.length, &block, &length, &entries, &greatest, RAVENVANITY_NEAREST, 1e-9) == RAVENVANITY_REFUSAL_OUT_OF_RANGE);
+    hold("an overflow", (_MM_GET_EXCEPTION_STATE() & _MM_EXCEPT_OVERFLOW) == 0);
+    ravenvanity_free(&sheet);
+}
+
 int main(void) {
     test_entries();
     test_sides();
@@ -717,5 +734,6 @@ int main(void) {
     test_properties();
     test_text_types();
     test_infinities();
+    test_overflow();
     return missed != 0;
 }
